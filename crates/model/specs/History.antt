@@ -1,0 +1,213 @@
+-- What holds of a sheet through its whole history.
+use Prim.Native.Nat.{ℕ, _+_, _*_, _≤_, _<_}
+use mathlib.Core.Path.{_≡_}
+use mathlib.Core.Bool.{true}
+use mathlib.Core.List.{List, [], _∷_, _++_, map}
+use mathlib.Core.Option.{Option, none, some}
+use mathlib.Core.Logic.{_⊎_, _↔_}
+use lib.ListN.{length, take, drop}
+use Rattle.std.specs.Iters.{counting}
+use Rattle.model.specs.Automaton.{Automaton, weight, Starts, Follows, Controller, WellFormedFor, WellFormed, AtMost, Exceeds, HasCount, CountAtMost, CountAbove, CountIs, NoRejectingCycle, Row, controller}
+use Rattle.model.specs.Rules.{together}
+use Rattle.model.specs.Lists.{In}
+use Rattle.model.specs.Text.{Named, filled}
+use Rattle.model.specs.Positions.{MoreThan, Described}
+use Rattle.model.specs.File.{file}
+use Rattle.model.specs.declared.refusal.Refusal.{Refusal}
+use Rattle.model.specs.declared.refusal.Refusal.the-variants.{NoneFound, Crowded}
+use Rattle.model.specs.Sheet.{Sheet, same-name, look, opened, with-stored, rule-list, rules, Call, add, withdraw, limit, solve, frame, write, check, Answer, done, count, command, wrote, accepted, refused, Stored, answer, after, run, replies}
+
+-- the rule of an add among the calls that was accepted, with no withdraw of its name accepted after it
+abbrev pub Standing : Sheet → List Call → Named → Type 0
+Standing s calls a =
+    (earlier : List Call) × (later : List Call)
+    × (calls ≡ earlier ++ (add (filled a) ∷ later))
+    × (answer (run s earlier) (add (filled a)) ≡ done)
+    × ((before behind : List Call) (name : List ℕ)
+    → later ≡ before ++ (withdraw name ∷ behind)
+    → answer (run s (earlier ++ (add (filled a) ∷ before))) (withdraw name) ≡ done
+    → same-name name (a .name) ≡ true → ⊥)
+
+-- the added rules on a sheet are those of the adds accepted, each until a withdraw of its name is accepted
+abbrev pub Rules-Stand : Type 0
+Rules-Stand =
+    (house : Automaton) (S C capacity : ℕ) (calls : List Call) (a : Named)
+    → let s = opened house S C capacity in
+    In (run s calls .added) a ↔ Standing s calls a
+
+-- the states of a controller, written out
+abbrev pub rows-of : Automaton → Controller → List Row
+rows-of A K =
+    map (λ s. record { command = K .command s; nexts = map (K .next s) (counting 0 (A .situations)) }) (counting 0 (K .size))
+
+-- a file of the controller with the number c: its states as records, c in the trailer, any certificate, and anything before
+abbrev pub FileOf : Automaton → Controller → ℕ → List ℕ → Type 0
+FileOf A K c bytes =
+    (before : List ℕ) × (certificate : List ℕ)
+    × (length certificate ≡ K .size * A .states)
+    × ((b : ℕ) → In certificate b → b < 256)
+    × (bytes ≡ before ++ file A (rows-of A K) certificate c)
+
+-- a controller for the sheet's situations and commands
+abbrev pub ForSheet : Sheet → Controller → Type 0
+ForSheet s K = WellFormedFor (s .situations) (s .commands) K
+
+-- check accepts a file of the controller with the number c
+abbrev pub Accepts : Sheet → Controller → ℕ → Type 0
+Accepts s K c = (bytes : List ℕ) × FileOf (rules s) K c bytes × (answer s (check bytes) ≡ accepted c)
+
+-- Some file of a controller with the number c is accepted exactly if its count over the rules on the sheet is at most c; and then
+-- it has no reachable cycle through a rejecting state
+abbrev pub Check-Exact : Sheet → Type 0
+Check-Exact s =
+    (c : ℕ) → c ≤ 14 → (K : Controller) → ForSheet s K → K .size ≤ 1024
+    → (Accepts s K c ↔ CountAtMost (rule-list s) K c) × (Accepts s K c → NoRejectingCycle (rule-list s) K)
+
+-- no controller stays within c
+abbrev pub NoneWithin : Automaton → ℕ → Type 0
+NoneWithin A c = (K : Controller) → WellFormed A K → Exceeds A K c
+
+abbrev pub NoneOnSheet : Sheet → ℕ → Type 0
+NoneOnSheet s c = (K : Controller) → ForSheet s K → CountAbove (rule-list s) K c
+
+-- Reach(c) of the rules on the sheet has more positions than its capacity
+abbrev pub OverCapacity : Sheet → ℕ → Type 0
+OverCapacity s c = MoreThan (rules s) c (s .capacity)
+
+-- Solve answers a count, none, or crowded. If it is called now and gives a count, it is at most the limit, and no c up to it was
+-- crowded; it is the count of the controller that solve stores, with so many states and that start command, which has no reachable
+-- cycle through a rejecting state; and no finite controller has a lower one. If none, no c up to the limit was crowded, and every
+-- finite controller counts above the limit. If crowded, some c up to the limit was, and no lower c was that or had a controller
+abbrev pub Solve-Least : Sheet → Type 0
+Solve-Least s =
+    (((c : ℕ) × (m : ℕ) × (u : ℕ) × (answer s solve ≡ count c m u)) ⊎ ((answer s solve ≡ refused NoneFound) ⊎ (answer s solve ≡ refused Crowded)))
+    × ((c m u : ℕ) → answer s solve ≡ count c m u
+    → (c ≤ s .limit) × ((n : ℕ) → n ≤ c → OverCapacity s n → ⊥)
+    × ((k : Stored) × (after s solve .stored ≡ some k)
+    × (let K = controller (k .found .rows) in
+    ForSheet s K × (K .size ≡ m) × (K .command 0 ≡ u) × CountIs (rule-list s) K c × NoRejectingCycle (rule-list s) K))
+    × ((K : Controller) (n : ℕ) → ForSheet s K → CountAtMost (rule-list s) K n → c ≤ n))
+    × (answer s solve ≡ refused NoneFound → ((n : ℕ) → n ≤ s .limit → OverCapacity s n → ⊥) × NoneOnSheet s (s .limit))
+    × (answer s solve ≡ refused Crowded
+    → (c : ℕ) × (c ≤ s .limit) × OverCapacity s c × ((n : ℕ) → n < c → (OverCapacity s n → ⊥) × NoneOnSheet s n))
+
+-- an accepted frame: its situation, and the command that it gave
+pub record Frame : Type 0 where
+  pub situation : ℕ
+  pub gave : ℕ
+
+abbrev pub given-by : Answer → Option ℕ
+given-by done = none
+given-by (count c m u) = none
+given-by (command u) = some u
+given-by (wrote n buffer) = none
+given-by (accepted c) = none
+given-by (refused r) = none
+
+abbrev pub frame-of : Call → Answer → List Frame
+frame-of (add rule) a = []
+frame-of (withdraw name) a = []
+frame-of (limit n) a = []
+frame-of solve a = []
+frame-of (frame x) a = elim (given-by a) [ none ↦ [] | some u ↦ record { situation = x; gave = u } ∷ [] ]
+frame-of (write buffer) a = []
+frame-of (check bytes) a = []
+
+-- the frames accepted among the calls
+abbrev pub frames : List Call → List Answer → List Frame
+frames [] answers = []
+frames (call ∷ calls) [] = []
+frames (call ∷ calls) (a ∷ answers) = frame-of call a ++ frames calls answers
+
+-- the command last given, first by solve, then by frames
+abbrev pub last-given : ℕ → List Frame → ℕ
+last-given u [] = u
+last-given u (f ∷ fs) = last-given (f .gave) fs
+
+-- `Along A u fs q t`: a path along all of these frames, from a start state to q, with t rejecting states on it; each frame's
+-- step uses its situation and the command last given before it, u before the first
+pub data Along (A : Automaton) (u : ℕ) : List Frame → ℕ → ℕ → Type 0 where
+  begin : {q : ℕ} → Starts A q → Along A u [] q (weight A q)
+  onward : {fs : List Frame} {q t : ℕ} (f : Frame) (p : ℕ) → Along A u fs q t → Follows A q (last-given u fs) (f .situation) p → Along A u (fs ++ (f ∷ [])) p (t + weight A p)
+
+-- since a solve that gave a count, and none after it did: no path of a rule that was on the sheet, along the first of the
+-- frames accepted since, counts above the count given
+abbrev pub Frames-Within : Sheet → List Call → Type 0
+Frames-Within s later =
+    (c m u : ℕ) → answer s solve ≡ count c m u
+    → let since = replies (after s solve) later in
+    ((c′ m′ u′ : ℕ) → In since (count c′ m′ u′) → ⊥)
+    → (fs gs : List Frame) → frames later since ≡ fs ++ gs
+    → (A : Automaton) → In (rule-list s) A → (q t : ℕ) → Along A u fs q t → t ≤ c
+
+-- the count over rules for the same situations and commands is that of the rules side by side
+abbrev pub Together-Agrees : Type 0
+Together-Agrees =
+    (S C : ℕ) (house : Automaton) (added : List Automaton)
+    → ((A : Automaton) → In (house ∷ added) A → (A .situations ≡ S) × (A .commands ≡ C))
+    → (K : Controller) (c : ℕ)
+    → (CountAtMost (house ∷ added) K c ↔ AtMost (together house added) K c)
+    × (CountAbove (house ∷ added) K c ↔ Exceeds (together house added) K c)
+    × (CountIs (house ∷ added) K c ↔ HasCount (together house added) K c)
+
+-- every rule on the sheet is for its situations and commands, and together they have at most 16 states
+abbrev pub Rules-Fit : Sheet → Type 0
+Rules-Fit s =
+    ((A : Automaton) → In (rule-list s) A → (A .situations ≡ s .situations) × (A .commands ≡ s .commands))
+    × (rules s .states ≤ 16)
+
+-- a sheet that calls led to, from one whose look refused nothing
+abbrev pub After-Calls : (Sheet → Type 0) → Type 0
+After-Calls Law =
+    (house : Automaton) (S C capacity : ℕ) → look house S C capacity ≡ none → (calls : List Call) → Law (run (opened house S C capacity) calls)
+
+-- whatever is called later
+abbrev pub Frames-Stay : Sheet → Type 0
+Frames-Stay s = (later : List Call) → Frames-Within s later
+
+-- Whenever a controller is stored, it is for the sheet, and in one of its states; its states are the positions stored with it; its
+-- count over the rules that are on the sheet now is the stored one, at most the limit; it has no reachable cycle through a
+-- rejecting state, and no finite controller has a lower count
+abbrev pub Stored-Best : Sheet → Type 0
+Stored-Best s =
+    (k : Stored) → s .stored ≡ some k
+    → let K = controller (k .found .rows) in
+    ForSheet s K × (k .current < K .size) × (k .found .count ≤ s .limit)
+    × Described (rules s) (k .found .count) K (k .found .positions)
+    × CountIs (rule-list s) K (k .found .count) × NoRejectingCycle (rule-list s) K
+    × ((other : Controller) (n : ℕ) → ForSheet s other → CountAtMost (rule-list s) other n → k .found .count ≤ n)
+
+-- What write puts down is a file of the stored controller with its count, and check accepts it; later bytes are left
+abbrev pub Written-Accepted : Sheet → Type 0
+Written-Accepted s =
+    (buffer held : List ℕ) (n : ℕ) → answer s (write buffer) ≡ wrote n held
+    → (k : Stored) × (s .stored ≡ some k)
+    × FileOf (rules s) (controller (k .found .rows)) (k .found .count) (take n held)
+    × (answer s (check (take n held)) ≡ accepted (k .found .count))
+    × (n ≤ length buffer) × (held ≡ take n held ++ drop n buffer)
+
+-- whatever bytes check accepts are a file of some controller for the sheet, with the number that it answers, which bounds its count
+abbrev pub Accepted-Is-File : Sheet → Type 0
+Accepted-Is-File s =
+    (bytes : List ℕ) (c : ℕ) → ((b : ℕ) → In bytes b → b < 256) → answer s (check bytes) ≡ accepted c
+    → (c ≤ 14)
+    × ((K : Controller) × ForSheet s K × (K .size ≤ 1024) × FileOf (rules s) K c bytes
+    × CountAtMost (rule-list s) K c × NoRejectingCycle (rule-list s) K)
+
+-- opened on what the look refuses, a sheet stays as it is, and every call gives that refusal
+abbrev pub Refused-Sheet : Type 0
+Refused-Sheet =
+    (house : Automaton) (S C capacity : ℕ) (r : Refusal) → look house S C capacity ≡ some r → (calls : List Call)
+    → let s = opened house S C capacity in
+    (run s calls ≡ s) × ((a : Answer) → In (replies s calls) a → a ≡ refused r)
+
+-- a refusal alters nothing, except that solve discards the stored controller
+abbrev pub Refusals-Keep : Type 0
+Refusals-Keep =
+    (s : Sheet) (call : Call) (r : Refusal) → answer s call ≡ refused r
+    → (after s call ≡ s) ⊎ ((call ≡ solve) × (after s call ≡ with-stored s none))
+
+-- whatever the house rule within range, and whatever was called: check is exact, solve gives the least count, and frames stay
+-- within it
+abbrev pub History-Law : Type 0
+History-Law = After-Calls (λ s. Check-Exact s × Solve-Least s × Frames-Stay s)

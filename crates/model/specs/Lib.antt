@@ -1,0 +1,14 @@
+pub mod Lists
+pub mod Automaton
+pub mod Rules
+pub mod Search
+pub mod Text
+pub mod Reading
+pub mod Positions
+pub mod Refusals
+pub mod File
+pub mod Sheet
+pub mod ReadingLaws
+pub mod Laws
+pub mod History
+pub mod Worked

@@ -1,0 +1,182 @@
+//! The laws of the definitions in specs/: each stands on the contract of a function that does nothing else.
+
+ghost use Rattle.model.specs.Worked.{Worked-Sheets-Hold};
+ghost use Rattle.model.specs.ReadingLaws.{Range-Exact, Lines-Unique, Reading-Exact, Faults-Exact, Words-Exact, Line-Exact, Numbers-Stand, Reached-Exact, Meaning-Exact};
+ghost use Rattle.model.specs.Laws.{Both-Search-Exactly, Reach-Exact, Safe-Part-Largest};
+ghost use Rattle.model.specs.History.{After-Calls, Together-Agrees, Rules-Fit, Rules-Stand, Check-Exact, Solve-Least, Frames-Stay, History-Law, Stored-Best, Written-Accepted, Accepted-Is-File, Refusals-Keep, Refused-Sheet};
+
+/// The sheets worked through answer as expected.
+pub fn worked_sheets_stand() -> u8
+    ensures { λ _. ⌜ Worked-Sheets-Hold ⌝ }
+{
+    0
+}
+
+/// The search lists Reach(c), or there is more of it than the capacity.
+pub fn reach_stands() -> u8
+    ensures { λ _. ⌜ Reach-Exact ⌝ }
+{
+    0
+}
+
+/// The safe part of Reach(c) is the largest safe set within it.
+pub fn safe_part_stands() -> u8
+    ensures { λ _. ⌜ Safe-Part-Largest ⌝ }
+{
+    0
+}
+
+/// The count over the rules of a sheet is that of the rules side by side.
+pub fn together_stands() -> u8
+    ensures { λ _. ⌜ Together-Agrees ⌝ }
+{
+    0
+}
+
+/// The rules on a sheet are for its situations and commands, with at most 16 states.
+pub fn rules_stand() -> u8
+    ensures { λ _. ⌜ After-Calls Rules-Fit ⌝ }
+{
+    0
+}
+
+/// Solve gives the least count of any controller, none only where there is none, and crowded only where it is.
+pub fn solve_stands() -> u8
+    ensures { λ _. ⌜ After-Calls Solve-Least ⌝ }
+{
+    0
+}
+
+/// No path along the frames since a solve counts above what it gave.
+pub fn frames_stand() -> u8
+    ensures { λ _. ⌜ After-Calls Frames-Stay ⌝ }
+{
+    0
+}
+
+/// Some file of a controller is accepted exactly if its count is at most c.
+pub fn check_stands() -> u8
+    ensures { λ _. ⌜ After-Calls Check-Exact ⌝ }
+{
+    0
+}
+
+/// The law of a sheet's whole history.
+pub fn history_law_stands() -> u8
+    ensures { λ _. ⌜ History-Law ⌝ }
+{
+    0
+}
+
+/// The search lists what a first node leads to, or that is more than there is room for.
+pub fn search_stands() -> u8
+    ensures { λ _. ⌜ Both-Search-Exactly ⌝ }
+{
+    0
+}
+
+/// The added rules are those of the adds accepted, each until a withdraw of its name is accepted.
+pub fn added_rules_stand() -> u8
+    ensures { λ _. ⌜ Rules-Stand ⌝ }
+{
+    0
+}
+
+/// Whenever a controller is stored, it is the best for the rules on the sheet.
+pub fn stored_stands() -> u8
+    ensures { λ _. ⌜ After-Calls Stored-Best ⌝ }
+{
+    0
+}
+
+/// What write puts down is a file of the stored controller, and check accepts it.
+pub fn written_stands() -> u8
+    ensures { λ _. ⌜ After-Calls Written-Accepted ⌝ }
+{
+    0
+}
+
+/// Whatever bytes check accepts are a file of some controller for the sheet.
+pub fn accepted_stands() -> u8
+    ensures { λ _. ⌜ After-Calls Accepted-Is-File ⌝ }
+{
+    0
+}
+
+/// A refusal alters nothing, except that solve discards the stored controller.
+pub fn refusals_stand() -> u8
+    ensures { λ _. ⌜ Refusals-Keep ⌝ }
+{
+    0
+}
+
+/// A sheet that the look refuses stays as it is, and gives that refusal from every call.
+pub fn refused_sheet_stands() -> u8
+    ensures { λ _. ⌜ Refused-Sheet ⌝ }
+{
+    0
+}
+
+
+/// A text reads as a rule exactly if it is the bytes of the rule's lines, in range, with every state reached.
+pub fn reading_stands() -> u8
+    ensures { λ _. ⌜ Reading-Exact ⌝ }
+{
+    0
+}
+
+/// A text gives a fault exactly if the fault says so.
+pub fn faults_stand() -> u8
+    ensures { λ _. ⌜ Faults-Exact ⌝ }
+{
+    0
+}
+
+/// The reader of each word gives it exactly if the bytes begin with it.
+pub fn words_stand() -> u8
+    ensures { λ _. ⌜ Words-Exact ⌝ }
+{
+    0
+}
+
+/// The reader of a line gives it exactly if the bytes begin with it, and else stops at the first byte at which no correct line goes on.
+pub fn lines_stand() -> u8
+    ensures { λ _. ⌜ Line-Exact ⌝ }
+{
+    0
+}
+
+/// A number of a line stands at its byte.
+pub fn numbers_stand() -> u8
+    ensures { λ _. ⌜ Numbers-Stand ⌝ }
+{
+    0
+}
+
+/// The search over rule states meets exactly the reached ones.
+pub fn reached_stand() -> u8
+    ensures { λ _. ⌜ Reached-Exact ⌝ }
+{
+    0
+}
+
+/// A rule means what its lines say.
+pub fn meaning_stands() -> u8
+    ensures { λ _. ⌜ Meaning-Exact ⌝ }
+{
+    0
+}
+
+/// A rule's lines are in range exactly if its name is one and its numbers lie in range.
+pub fn ranges_stand() -> u8
+    ensures { λ _. ⌜ Range-Exact ⌝ }
+{
+    0
+}
+
+/// No two lists of correct lines have the same bytes.
+pub fn lines_unique() -> u8
+    ensures { λ _. ⌜ Lines-Unique ⌝ }
+{
+    0
+}
