@@ -7,7 +7,8 @@ use mathlib.Core.Logic.{_⊎_, inl, inr, _↔_}
 use mathlib.Core.Option.{Option, none, some}
 use native.Mathlib.Omega.{arith}
 use lib.Dec.{eqb, leb}
-use lib.ListN.{length, getD, length-map}
+use lib.ListN.{length, getD, take, drop, length-map, length-append, List·getD-append}
+use lib.Seq.{split-at, length-take-le, getD-append-seam, getD-take}
 use Rattle.std.specs.Iters.{counting}
 use Rattle.std.proofs.shelf.Tests.{cases-bool, cases-lt, cases-eq, both-ways, true≢false}
 use Rattle.std.proofs.shelf.Lists.{getD-map}
@@ -15,10 +16,10 @@ use Rattle.std.proofs.shelf.Counted.{getD-map-counting, length-map-counting}
 use Rattle.model.specs.Automaton.{Automaton, weight, Starts, Follows, Controller, WellFormed, Path, begin, onward, AtMost, Row, no-row, controller}
 use Rattle.model.specs.Search.{place, fresh, reached-from}
 use Rattle.model.specs.Lists.{every, any, joined, In, Distinct}
-use Rattle.model.specs.Positions.{Position, mark, start-position, step, Fits, same, Reach, steps, holds, safe-part, lowest, command-at, states-met, row-at, Found, found-in, InSafe, Described}
-use Rattle.model.specs.Laws.{Leads, here, further}
+use Rattle.model.specs.Positions.{LooksBefore, NumberedAsMet, Position, mark, start-position, step, Fits, same, Reach, steps, holds, safe-part, lowest, command-at, states-met, row-at, Found, found-in, InSafe, Described}
+use Rattle.model.specs.SearchLaws.{Leads, here, further, MetBehind}
 use Rattle.model.proofs.Theory.{Valid}
-use Rattle.model.proofs.Lists.{map-in, in-counting, counting-in, decides-same, in-getD, pigeons, place-in, joined-counting}
+use Rattle.model.proofs.Lists.{map-in, in-counting, counting-in, decides-same, in-getD, pigeons, place-in, in-index, one-place}
 use Rattle.model.proofs.Searches.{Listed, Over, Result, searched}
 use Rattle.model.proofs.Reaching.{in-steps, steps-in, decides-holds, part-in, part-kept, part-fits, part-safe, part-largest, reach-length}
 use Rattle.model.proofs.Runs.{start-has, step-carries}
@@ -119,9 +120,15 @@ module _ (A : Automaton) (c : ℕ) (L : List Position) (lists : (P : Position) �
 
   first-at : (0 < length met) × (getD met 0 [] ≡ start-position A)
   unfolding Met
-  first-at =
-      let e : met ≡ start-position A ∷ fresh same (start-position A ∷ []) (joined nexts met) = met-listed .order in
-      (omega (arith, ap length e), ap (λ l. getD l 0 []) e)
+  first-at = front met met-listed
+    where
+      front : (M : List Position) → Met M → (0 < length M) × (getD M 0 [] ≡ start-position A)
+      front [] l = absurd (l .all (start-position A) here)
+      front (P ∷ M) l = go (l .ordered [] P M refl)
+        where
+          go : (_≡_ {A = List Position} [] [] × (P ≡ start-position A)) ⊎ MetBehind nexts [] P → (0 < length (P ∷ M)) × (P ≡ start-position A)
+          go (inl (e, f)) = (omega arith, f)
+          go (inr (earlier, z, later, left, right, e, f, g, h)) = absurd (omega (arith, ap length e, length-append earlier (z ∷ later)))
 
   size-is : K .size ≡ length met
   unfolding K met
@@ -197,6 +204,79 @@ module _ (A : Automaton) (c : ℕ) (L : List Position) (lists : (P : Position) �
   unfolding R
   safe-in P (S, safe, within, i) = part-largest A c L lists (In S) safe within P i
 
+  -- a next state has a lower number than j, if its position stands before place j
+  lower : (j s x : ℕ) → j ≤ length met → s < length met → x < A .situations → In (take j met) (step A (chosen (getD met s [])) x (getD met s [])) → K .next s x < j
+  unfolding Met
+  lower j s x hj hs hx i =
+      let P : Position = step A (chosen (getD met s [])) x (getD met s []) in
+      let (a, b) = next-at s hs x hx in
+      let (k, hk, e) = in-index (take j met) P [] i in
+      let long : length (take j met) ≡ j = length-take-le j met hj in
+      let f : getD (take j met) k [] ≡ getD met k [] = getD-take j met k [] (omega arith) in
+      let g : K .next s x ≡ k = one-place met (K .next s x) k [] (met-listed .once) a (omega arith) (b ∙ ap (λ u. step A u x (getD met s [])) (command-is s hs) ∙ sym e ∙ f) in
+      omega arith
+
+  numbered : NumberedAsMet (A .situations) K
+  unfolding Met nexts
+  numbered j pos h = go (met-listed .ordered (take j met) (getD met j []) (drop (suc j) met) (split-at met j [] hj))
+    where
+      hj : j < length met
+      hj = omega (arith, size-is)
+
+      long : length (take j met) ≡ j
+      long = length-take-le j met (omega (arith, size-is))
+
+      first-met : MetBehind nexts (take j met) (getD met j []) → (s : ℕ) × (x : ℕ) × (s < j) × (x < A .situations) × (K .next s x ≡ j)
+          × ((s′ x′ : ℕ) → x′ < A .situations → LooksBefore s′ x′ s x → K .next s′ x′ < j)
+      first-met (earlier, z, later, left, right, e, f, g, h) = (s, x, hs, hx, is, λ s′ x′ hx′ b. before s′ x′ hx′ b)
+        where
+          s : ℕ
+          s = length earlier
+
+          x : ℕ
+          x = length left
+
+          hs : s < j
+          hs = omega (arith, ap length e, length-append earlier (z ∷ later), long)
+
+          hx : x < A .situations
+          hx = omega (arith, ap length f, length-append left (getD met j [] ∷ right), length-map-counting (λ x. step A (chosen z) x z) 0 (A .situations))
+
+          -- place i of those before j
+          at-place : (i : ℕ) → i < j → getD met i [] ≡ getD (earlier ++ (z ∷ later)) i []
+          at-place i hi =
+              sym (getD-take j met i [] hi) ∙ ap (λ l. getD l i []) e
+
+          at-s : getD met s [] ≡ z
+          at-s = at-place s hs ∙ getD-append-seam earlier z later []
+
+          step-at : (i : ℕ) → i < A .situations → step A (chosen z) i z ≡ getD (nexts z) i []
+          step-at i hi = sym (getD-map-counting (λ x. step A (chosen z) x z) 0 (A .situations) i i [] hi (omega arith))
+
+          is : K .next s x ≡ j
+          is =
+              let hs′ : s < length met = omega (arith, hs, hj) in
+              let (a, b) = next-at s hs′ x hx in
+              one-place met (K .next s x) j [] (met-listed .once) a hj
+              (b ∙ ap (λ u. step A u x (getD met s [])) (command-is s hs′) ∙ ap (λ P. step A (chosen P) x P) at-s ∙ step-at x hx ∙ ap (λ l. getD l x []) f ∙ getD-append-seam left (getD met j []) right [])
+
+          before : (s′ x′ : ℕ) → x′ < A .situations → LooksBefore s′ x′ s x → K .next s′ x′ < j
+          before s′ x′ hx′ (inl l) =
+              let e′ : getD met s′ [] ≡ getD earlier s′ [] = at-place s′ (omega (arith, l, hs)) ∙ List·getD-append earlier (z ∷ later) [] s′ l in
+              let i : In earlier (getD met s′ []) = subst (λ P. In earlier P) (sym e′) (in-getD earlier s′ [] l) in
+              lower j s′ x′ (omega (arith, hj)) (omega (arith, l, hs, hj)) hx′ (h (getD met s′ []) _ i (in-steps A (getD met s′ []) (chosen (getD met s′ [])) x′ hx′))
+          before s′ x′ hx′ (inr (l, m)) =
+              let hs′ : s′ < length met = omega (arith, l, hs, hj) in
+              let here : getD met s′ [] ≡ z = ap (λ n. getD met n []) l ∙ at-s in
+              let w : step A (chosen (getD met s′ [])) x′ (getD met s′ []) ≡ getD left x′ [] =
+              ap (λ P. step A (chosen P) x′ P) here ∙ step-at x′ hx′ ∙ ap (λ l. getD l x′ []) f ∙ List·getD-append left (getD met j [] ∷ right) [] x′ m in
+              lower j s′ x′ (omega (arith, hj)) hs′ hx′ (subst (λ P. In (take j met) P) (sym w) (g (getD left x′ []) (in-getD left x′ [] m)))
+
+      go : ((take j met ≡ []) × (getD met j [] ≡ start-position A)) ⊎ MetBehind nexts (take j met) (getD met j []) → (s : ℕ) × (x : ℕ) × (s < j) × (x < A .situations) × (K .next s x ≡ j)
+          × ((s′ x′ : ℕ) → x′ < A .situations → LooksBefore s′ x′ s x → K .next s′ x′ < j)
+      go (inl (e, f)) = absurd (omega (arith, ap length e, long))
+      go (inr m) = first-met m
+
   pub found-described : Described A c (controller (found-in A c (safe-part A L) .rows)) (found-in A c (safe-part A L) .positions)
   unfolding R K met Met nexts chosen
   found-described =
@@ -212,11 +292,5 @@ module _ (A : Automaton) (c : ℕ) (L : List Position) (lists : (P : Position) �
             both-ways (holds A R (at s hs) u) (lowest-least (holds A R (at s hs)) 0 (A .commands) u (omega arith) low)
             (decides-holds A R (at s hs) u .1 (λ x hx. safe-in (step A u x (at s hs)) (st x hx))));
         nexts = λ s x h hx. (let hs : s < length met = omega (arith, size-is) in next-at s hs x hx .1);
-        order = met-listed .order ∙ ap (λ l. fresh same [] (start-position A ∷ l)) (sym by-number);
+        numbered = numbered;
       }
-    where
-      by-number : joined (λ s. steps A (getD met s []) (K .command s)) (counting 0 (K .size)) ≡ joined nexts met
-      by-number =
-          ap (λ n. joined (λ s. steps A (getD met s []) (K .command s)) (counting 0 n)) size-is
-          ∙ joined-counting (λ s. steps A (getD met s []) (K .command s)) nexts met 0 []
-          (λ i j e hi. (let ij : j ≡ i = omega arith in ap (λ n. steps A (getD met n []) (K .command n)) ij ∙ ap (steps A (getD met i [])) (command-is i hi)))

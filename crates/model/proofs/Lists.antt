@@ -152,6 +152,19 @@ in-getD (Q ∷ L) (suc i) d h = inr (in-getD L i d (omega arith))
 
 -- lists without repeats
 
+pub in-index : {X : Type 0} (L : List X) (x d : X) → In L x → (k : ℕ) × (k < length L) × (getD L k d ≡ x)
+in-index [] x d i = absurd i
+in-index (y ∷ L) x d (inl e) = (0, omega arith, sym e)
+in-index (y ∷ L) x d (inr i) = let (k, h, e) = in-index L x d i in (suc k, omega arith, e)
+
+-- two places of one node are one place
+pub one-place : {X : Type 0} (L : List X) (i j : ℕ) (d : X) → Distinct L → i < length L → j < length L → getD L i d ≡ getD L j d → i ≡ j
+one-place [] i j d u hi hj e = absurd (omega arith)
+one-place (x ∷ L) zero zero d u hi hj e = refl
+one-place (x ∷ L) zero (suc j) d u hi hj e = absurd (u .0 (subst (λ y. In L y) (sym e) (in-getD L j d (omega arith))))
+one-place (x ∷ L) (suc i) zero d u hi hj e = absurd (u .0 (subst (λ y. In L y) e (in-getD L i d (omega arith))))
+one-place (x ∷ L) (suc i) (suc j) d u hi hj e = ap suc (one-place L i j d (u .1) (omega arith) (omega arith) e)
+
 pub distinct-append : {X : Type 0} (L M : List X) → Distinct L → Distinct M → ((x : X) → In L x → In M x → ⊥) → Distinct (L ++ M)
 distinct-append [] M d e apart = e
 distinct-append {X} (x ∷ L) M (n, d) e apart = (λ i. go (in-append L M x i), distinct-append L M d e (λ y i j. apart y (inr i) j))

@@ -7,7 +7,7 @@ use mathlib.Core.Logic.{_⊎_, inl, inr, _↔_}
 use mathlib.Core.Option.{Option, none, some}
 use native.Mathlib.Omega.{arith}
 use lib.Dec.{eqb, leb}
-use lib.ListN.{length, getD}
+use lib.ListN.{length, getD, length-append}
 use Rattle.std.specs.Iters.{counting}
 use Rattle.std.specs.Runs.{kept-by}
 use Rattle.std.specs.Orderings.{Decides}
@@ -16,8 +16,8 @@ use Rattle.std.proofs.shelf.Ways.{decides-like, decides-eqb}
 use Rattle.model.specs.Automaton.{Automaton, weight}
 use Rattle.model.specs.Search.{reached-from}
 use Rattle.model.specs.Lists.{every, any, joined, In, Distinct}
-use Rattle.model.specs.Positions.{Position, mark, start-position, step, Fits, fits, same, Reach, at-start, by-step, MoreThan, Holds, Safe, steps, reach, member, holds, kept, pruned, safe-part, lowest}
-use Rattle.model.specs.Laws.{Leads, here, further, Both-Search-Exactly, Reach-Exact, Safe-Part-Largest}
+use Rattle.model.specs.Positions.{successors, Position, mark, start-position, step, Fits, fits, same, Reach, at-start, by-step, MoreThan, Holds, Safe, steps, reach, member, holds, kept, pruned, safe-part, lowest}
+use Rattle.model.specs.SearchLaws.{InMeetingOrder, Leads, here, further, Both-Search-Exactly, Reach-Exact, Safe-Part-Largest}
 use Rattle.model.proofs.Lists.{in-map, map-in, in-joined, joined-in, in-counting, counting-in, in-kept-by, kept-by-in, kept-by-turn, decides-any, decides-every, decides-same, in-getD}
 use Rattle.model.proofs.Searches.{search-exact, decides-met, Listed, Over, Result, searched}
 use Rattle.model.proofs.Runs.{start-length, step-length}
@@ -72,18 +72,13 @@ module _ (A : Automaton) (c : ℕ) where
   reach-fits (at-start f) = f
   reach-fits (by-step u x r hu hx f) = f
 
-  nexts : Position → List Position
-  nexts P = kept-by (fits c) (joined (steps A P) (counting 0 (A .commands)))
-
-  in-nexts : (P : Position) (u x : ℕ) → u < A .commands → x < A .situations → Fits A c (step A u x P) → In (nexts P) (step A u x P)
-  unfolding nexts
+  in-nexts : (P : Position) (u x : ℕ) → u < A .commands → x < A .situations → Fits A c (step A u x P) → In ((successors A c) P) (step A u x P)
   in-nexts P u x hu hx f =
       in-kept-by (fits c) (joined (steps A P) (counting 0 (A .commands))) (step A u x P)
       (in-joined (steps A P) (counting 0 (A .commands)) u (step A u x P) (in-counting 0 (A .commands) u (omega arith) (omega arith)) (in-steps A P u x hx))
       (decides-fits A c (step A u x P) (step-length A u x P) .1 f)
 
-  nexts-in : (P Q : Position) → In (nexts P) Q → (u : ℕ) × (x : ℕ) × (u < A .commands) × (x < A .situations) × (Q ≡ step A u x P) × Fits A c (step A u x P)
-  unfolding nexts
+  nexts-in : (P Q : Position) → In ((successors A c) P) Q → (u : ℕ) × (x : ℕ) × (u < A .commands) × (x < A .situations) × (Q ≡ step A u x P) × Fits A c (step A u x P)
   nexts-in P Q i =
       let (j, f) = kept-by-in (fits c) (joined (steps A P) (counting 0 (A .commands))) Q i in
       let (u, k, s) = joined-in (steps A P) (counting 0 (A .commands)) Q j in
@@ -92,13 +87,13 @@ module _ (A : Automaton) (c : ℕ) where
       (u, x, omega (arith, r .1), hx, e, decides-fits A c (step A u x P) (step-length A u x P) .0 (ap (fits c) (sym e) ∙ f))
 
   module _ (fit : Fits A c (start-position A)) where
-    leads-reach : {P : Position} → Leads nexts (start-position A) P → Reach A c P
+    leads-reach : {P : Position} → Leads (successors A c) (start-position A) P → Reach A c P
     leads-reach here = at-start fit
     leads-reach (further {y = P} Q l i) =
         let (u, x, hu, hx, e, f) = nexts-in P Q i in
         subst (λ R. Reach A c R) (sym e) (by-step u x (leads-reach l) hu hx f)
 
-    reach-leads : {P : Position} → Reach A c P → Leads nexts (start-position A) P
+    reach-leads : {P : Position} → Reach A c P → Leads (successors A c) (start-position A) P
     reach-leads (at-start f) = here
     reach-leads (by-step {P} u x r hu hx f) = further {y = P} (step A u x P) (reach-leads r) (in-nexts P u x hu hx f)
 
@@ -108,26 +103,25 @@ module _ (A : Automaton) (c : ℕ) where
 
   abbrev pub Reached : ℕ → Option (List Position) → Type 0
   Reached capacity none = MoreThan A c capacity
-  Reached capacity (some L) = Distinct L × (length L ≤ capacity) × ((P : Position) → In L P ↔ Reach A c P)
+  Reached capacity (some L) = Distinct L × (length L ≤ capacity) × ((P : Position) → In L P ↔ Reach A c P) × InMeetingOrder (successors A c) (start-position A) L
 
   pub reached : (capacity : ℕ) → Reached capacity (reach A c capacity)
-  unfolding nexts
   reached capacity = go (cases-bool (fits c (start-position A)))
     where
       shut : Decides (fits c (start-position A)) (Fits A c (start-position A))
       shut = decides-fits A c (start-position A) (start-length A)
 
-      carry : Fits A c (start-position A) → (o : Option (List Position)) → Result same decides-same nexts capacity (start-position A) o → Reached capacity o
+      carry : Fits A c (start-position A) → (o : Option (List Position)) → Result same decides-same (successors A c) capacity (start-position A) o → Reached capacity o
       carry fit none (L, d, h, m) = (L, d, λ P i. leads-reach fit (h P i), m)
-      carry fit (some L) r = (r .once, r .few, λ P. (λ i. leads-reach fit (r .has P i), λ h. r .all P (reach-leads fit h)))
+      carry fit (some L) r = (r .once, r .few, λ P. (λ i. leads-reach fit (r .has P i), λ h. r .all P (reach-leads fit h)), r .ordered)
 
       go : (fits c (start-position A) ≡ true) ⊎ (fits c (start-position A) ≡ false) → Reached capacity (reach A c capacity)
       go (inl t) =
-          let e : reach A c capacity ≡ reached-from same nexts capacity (start-position A) = rw (t, reach) in
-          subst (Reached capacity) (sym e) (carry (shut .0 t) (reached-from same nexts capacity (start-position A)) (searched same decides-same nexts capacity (start-position A)))
+          let e : reach A c capacity ≡ reached-from same (successors A c) capacity (start-position A) = rw (t, reach) in
+          subst (Reached capacity) (sym e) (carry (shut .0 t) (reached-from same (successors A c) capacity (start-position A)) (searched same decides-same (successors A c) capacity (start-position A)))
       go (inr n) =
           let e : reach A c capacity ≡ some [] = rw (n, reach) in
-          subst (Reached capacity) (sym e) (tt, omega arith, λ P. (λ i. absurd i, λ r. absurd (both-ways (fits c (start-position A)) n (shut .1 (reach-starts r)))))
+          subst (Reached capacity) (sym e) (tt, omega arith, (λ P. (λ i. absurd i, λ r. absurd (both-ways (fits c (start-position A)) n (shut .1 (reach-starts r))))), λ before y behind e. absurd (omega (arith, ap length e, length-append before (y ∷ behind))))
 
 pub reach-exact : Reach-Exact
 reach-exact A c capacity =
@@ -213,7 +207,7 @@ module _ (A : Automaton) (c : ℕ) (L : List Position) (lists : (P : Position) �
 
 pub safe-part-largest : Safe-Part-Largest
 safe-part-largest A c capacity L e =
-    let (d, few, lists) = reach-exact A c capacity .0 L e in
+    let (d, few, lists, ordered) = reach-exact A c capacity .0 L e in
     (part-safe A c L lists, λ S safe within P i. part-largest A c L lists (In S) safe within P i)
 
 pub both-search : Both-Search-Exactly

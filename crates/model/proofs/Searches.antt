@@ -13,8 +13,23 @@ use Rattle.std.proofs.shelf.Tests.{cases-bool, cases-lt, both-ways, leb-true, l
 use Rattle.std.proofs.shelf.Ways.{decides-like, same-from-decides}
 use Rattle.model.specs.Search.{fresh, explore, reached-from}
 use Rattle.model.specs.Lists.{any, joined, In, Distinct}
-use Rattle.model.specs.Laws.{Leads, here, further, Search-Exact}
+use Rattle.model.specs.SearchLaws.{Leads, here, further, MetBehind, InMeetingOrder, Search-Exact}
 use Rattle.model.proofs.Lists.{in-left, in-right, in-append, decides-any, distinct-append}
+
+-- where y stands in two lists, one behind the other
+split-append : {X : Type 0} (L M before : List X) (y : X) (behind : List X) → L ++ M ≡ before ++ (y ∷ behind)
+    → ((more : List X) × (L ≡ before ++ (y ∷ more))) ⊎ ((front : List X) × (before ≡ L ++ front) × (M ≡ front ++ (y ∷ behind)))
+split-append [] M before y behind e = inr (before, refl, e)
+split-append (x ∷ L) M [] y behind e = inl (L, (let f : x ≡ y = cc in cc))
+split-append {X} (x ∷ L) M (b ∷ before) y behind e = go (split-append L M before y behind (cc))
+  where
+    f : x ≡ b
+    f = cc
+
+    go : ((more : List X) × (L ≡ before ++ (y ∷ more))) ⊎ ((front : List X) × (before ≡ L ++ front) × (M ≡ front ++ (y ∷ behind)))
+        → ((more : List X) × (x ∷ L ≡ (b ∷ before) ++ (y ∷ more))) ⊎ ((front : List X) × (b ∷ before ≡ (x ∷ L) ++ front) × (M ≡ front ++ (y ∷ behind)))
+    go (inl (more, g)) = inl (more, cc)
+    go (inr (front, g, h)) = inr (front, cc, h)
 
 module _ {X : Type 0} (same : X → X → Bool) (decides : (a b : X) → Decides (same a b) (a ≡ b)) where
   pub decides-met : (met : List X) (x : X) → Decides (any (same x) met) (In met x)
@@ -73,58 +88,40 @@ module _ {X : Type 0} (same : X → X → Bool) (decides : (a b : X) → Decides
       go (inr n) below later =
           subst (λ l. Distinct l) (sym (fresh-new met xs x n)) ((λ i. fresh-in (x ∷ met) xs x i .1 (inl refl)), later)
 
-  -- the order: what is fresh depends on what is met alone
-  fresh-like : (met met′ xs : List X) → ((y : X) → In met y → In met′ y) → ((y : X) → In met′ y → In met y) → fresh same met xs ≡ fresh same met′ xs
-  fresh-like met met′ [] f g = refl
-  fresh-like met met′ (x ∷ xs) f g =
-      go (cases-bool (any (same x) met)) (fresh-like met met′ xs f g)
-      (fresh-like (x ∷ met) (x ∷ met′) xs (λ y i. more met met′ f y i) (λ y i. more met′ met g y i))
+  -- what is fresh in front of y: y stands in the list, and all before it there was met, or is fresh and in front of y
+  fresh-split : (met xs front : List X) (y : X) (behind : List X) → fresh same met xs ≡ front ++ (y ∷ behind)
+      → (left : List X) × (right : List X) × (xs ≡ left ++ (y ∷ right)) × ((w : X) → In left w → In met w ⊎ In front w)
+  fresh-split met [] front y behind e = absurd (omega (arith, ap length e, length-append front (y ∷ behind)))
+  fresh-split met (x ∷ xs) front y behind e = go (cases-bool (any (same x) met)) front e (fresh-split met xs) (fresh-split (x ∷ met) xs)
     where
-      more : (a b : List X) → ((y : X) → In a y → In b y) → (y : X) → (y ≡ x) ⊎ In a y → In (x ∷ b) y
-      more a b h y (inl e) = inl e
-      more a b h y (inr i) = inr (h y i)
-
-      alike : any (same x) met ≡ any (same x) met′
-      alike = same-from-decides (any (same x) met) (any (same x) met′) (decides-met met x) (decides-like (any (same x) met′) (g x) (f x) (decides-met met′ x))
-
-      go : (any (same x) met ≡ true) ⊎ (any (same x) met ≡ false) → fresh same met xs ≡ fresh same met′ xs → fresh same (x ∷ met) xs ≡ fresh same (x ∷ met′) xs
-          → fresh same met (x ∷ xs) ≡ fresh same met′ (x ∷ xs)
-      go (inl t) below later = fresh-old met xs x t ∙ below ∙ sym (fresh-old met′ xs x (sym alike ∙ t))
-      go (inr n) below later = fresh-new met xs x n ∙ ap {B = List X} (λ l. x ∷ l) later ∙ sym (fresh-new met′ xs x (sym alike ∙ n))
-
-  -- a second list is fresh behind what was met and is fresh of the first
-  fresh-append : (met xs ys : List X) → fresh same met (xs ++ ys) ≡ fresh same met xs ++ fresh same (fresh same met xs ++ met) ys
-  fresh-append met [] ys = refl
-  fresh-append met (x ∷ xs) ys = go (cases-bool (any (same x) met)) (fresh-append met xs ys) (fresh-append (x ∷ met) xs ys)
-    where
-      go : (any (same x) met ≡ true) ⊎ (any (same x) met ≡ false) → fresh same met (xs ++ ys) ≡ fresh same met xs ++ fresh same (fresh same met xs ++ met) ys
-          → fresh same (x ∷ met) (xs ++ ys) ≡ fresh same (x ∷ met) xs ++ fresh same (fresh same (x ∷ met) xs ++ (x ∷ met)) ys
-          → fresh same met (x ∷ (xs ++ ys)) ≡ fresh same met (x ∷ xs) ++ fresh same (fresh same met (x ∷ xs) ++ met) ys
-      go (inl t) below later = fresh-old met (xs ++ ys) x t ∙ below ∙ ap (λ l. l ++ fresh same (l ++ met) ys) (sym (fresh-old met xs x t))
-      go (inr n) below later =
-          fresh-new met (xs ++ ys) x n ∙ ap {B = List X} (λ l. x ∷ l) later
-          ∙ ap {B = List X} (λ l. x ∷ (fresh same (x ∷ met) xs ++ l)) (fresh-like (F ++ (x ∷ met)) (x ∷ (F ++ met)) ys (λ y i. there y (in-append F (x ∷ met) y i)) (λ y i. back y i))
-          ∙ ap (λ l. l ++ fresh same (l ++ met) ys) (sym (fresh-new met xs x n))
+      go : (any (same x) met ≡ true) ⊎ (any (same x) met ≡ false) → (front : List X) → fresh same met (x ∷ xs) ≡ front ++ (y ∷ behind)
+          → ((front : List X) (y : X) (behind : List X) → fresh same met xs ≡ front ++ (y ∷ behind)
+          → (left : List X) × (right : List X) × (xs ≡ left ++ (y ∷ right)) × ((w : X) → In left w → In met w ⊎ In front w))
+          → ((front : List X) (y : X) (behind : List X) → fresh same (x ∷ met) xs ≡ front ++ (y ∷ behind)
+          → (left : List X) × (right : List X) × (xs ≡ left ++ (y ∷ right)) × ((w : X) → In left w → In (x ∷ met) w ⊎ In front w))
+          → (left : List X) × (right : List X) × (x ∷ xs ≡ left ++ (y ∷ right)) × ((w : X) → In left w → In met w ⊎ In front w)
+      go (inl t) front e below later =
+          let (left, right, f, h) = below front y behind (sym (fresh-old met xs x t) ∙ e) in
+          (x ∷ left, right, ap {B = List X} (λ l. x ∷ l) f, λ w i. old left h w i)
         where
-          F : List X
-          F = fresh same (x ∷ met) xs
+          old : (left : List X) → ((w : X) → In left w → In met w ⊎ In front w) → (w : X) → (w ≡ x) ⊎ In left w → In met w ⊎ In front w
+          old left h w (inl s) = inl (subst (λ z. In met z) (sym s) (decides-met met x .0 t))
+          old left h w (inr i) = h w i
+      go (inr n) [] e below later = let f : x ∷ fresh same (x ∷ met) xs ≡ y ∷ behind = sym (fresh-new met xs x n) ∙ e in ([], xs, (let g : x ≡ y = cc in cc), λ w i. absurd i)
+      go (inr n) (v ∷ front) e below later =
+          let f : x ∷ fresh same (x ∷ met) xs ≡ v ∷ (front ++ (y ∷ behind)) = sym (fresh-new met xs x n) ∙ e in
+          let g : x ≡ v = cc in
+          let (left, right, k, h) = later front y behind (cc) in
+          (x ∷ left, right, ap {B = List X} (λ l. x ∷ l) k, λ w i. new left h g w i)
+        where
+          moved : (w : X) → x ≡ v → In (x ∷ met) w ⊎ In front w → In met w ⊎ In (v ∷ front) w
+          moved w g (inl (inl s)) = inr (inl (s ∙ g))
+          moved w g (inl (inr i)) = inl i
+          moved w g (inr i) = inr (inr i)
 
-          there : (y : X) → In (fresh same (x ∷ met) xs) y ⊎ In (x ∷ met) y → In (x ∷ (fresh same (x ∷ met) xs ++ met)) y
-          there y (inl i) = inr (in-left (fresh same (x ∷ met) xs) met y i)
-          there y (inr (inl e)) = inl e
-          there y (inr (inr i)) = inr (in-right (fresh same (x ∷ met) xs) met y i)
-
-          other : (y : X) → In (fresh same (x ∷ met) xs) y ⊎ In met y → In (fresh same (x ∷ met) xs ++ (x ∷ met)) y
-          other y (inl i) = in-left (fresh same (x ∷ met) xs) (x ∷ met) y i
-          other y (inr i) = in-right (fresh same (x ∷ met) xs) (x ∷ met) y (inr i)
-
-          back : (y : X) → (y ≡ x) ⊎ In (fresh same (x ∷ met) xs ++ met) y → In (fresh same (x ∷ met) xs ++ (x ∷ met)) y
-          back y (inl e) = in-right (fresh same (x ∷ met) xs) (x ∷ met) y (inl e)
-          back y (inr i) = other y (in-append (fresh same (x ∷ met) xs) met y i)
-
-  joined-push : (next : X → List X) (L : List X) (w : X) → joined next (L ++ (w ∷ [])) ≡ joined next L ++ next w
-  joined-push next [] w = append-nil (next w)
-  joined-push next (y ∷ L) w = ap (λ l. next y ++ l) (joined-push next L w) ∙ sym (append-assoc (next y) (joined next L) (next w))
+          new : (left : List X) → ((w : X) → In left w → In (x ∷ met) w ⊎ In front w) → x ≡ v → (w : X) → (w ≡ x) ⊎ In left w → In met w ⊎ In (v ∷ front) w
+          new left h g w (inl s) = inr (inl (s ∙ g))
+          new left h g w (inr i) = moved w g (h w i)
 
   module _ (next : X → List X) (room : ℕ) (x : X) where
     pub record Listed (L : List X) : Type 0 where
@@ -132,7 +129,7 @@ module _ {X : Type 0} (same : X → X → Bool) (decides : (a b : X) → Decides
       pub once : Distinct L
       pub has : (y : X) → In L y → Leads next x y
       pub all : (y : X) → Leads next x y → In L y
-      pub order : L ≡ fresh same [] (x ∷ joined next L)
+      pub ordered : InMeetingOrder next x L
 
     abbrev pub Over : Type 0
     Over = (L : List X) × Distinct L × ((y : X) → In L y → Leads next x y) × (room < length L)
@@ -150,7 +147,7 @@ module _ {X : Type 0} (same : X → X → Bool) (decides : (a b : X) → Decides
       closed : (y z : X) → In met y → In (next y) z → In met z ⊎ In waiting y
       budget : room + length waiting ≤ turns + length met
       order : met ≡ done ++ waiting
-      came : met ≡ fresh same [] (x ∷ joined next done)
+      ordered : InMeetingOrder next x met
 
     ended : (turns : ℕ) (done met : List X) → Inv turns done met [] → Listed met
     ended turns done met i =
@@ -159,7 +156,7 @@ module _ {X : Type 0} (same : X → X → Bool) (decides : (a b : X) → Decides
           once = i .once;
           has = i .has;
           all = λ y l. lead l;
-          order = subst (λ d. met ≡ fresh same [] (x ∷ joined next d)) (sym (i .order ∙ append-nil done)) (i .came);
+          ordered = i .ordered;
         }
       where
         on : (y z : X) → In met z ⊎ In [] y → In met z
@@ -197,7 +194,7 @@ module _ {X : Type 0} (same : X → X → Bool) (decides : (a b : X) → Decides
             closed = λ y z j k. close y z (in-append met new y j) k;
             budget = omega (arith, i .budget, length-append waiting new, length-append met new);
             order = ap (λ l. l ++ new) (i .order) ∙ append-assoc done (w ∷ waiting) new ∙ sym (append-assoc done (w ∷ []) (waiting ++ new));
-            came = ap (λ l. l ++ new) (i .came) ∙ sym arrived;
+            ordered = λ before y behind e. stand before y behind (split-append met new before y behind e);
           }
         where
           wait : (y : X) → In waiting y ⊎ In new y → In (met ++ new) y
@@ -217,11 +214,40 @@ module _ {X : Type 0} (same : X → X → Bool) (decides : (a b : X) → Decides
               go (inr (inl e)) = inl (both z (in-fresh met (next w) z (subst (λ v. In (next v) z) e k)))
               go (inr (inr h)) = inr (in-left waiting new y h)
 
-          arrived : fresh same [] (x ∷ joined next (done ++ (w ∷ []))) ≡ fresh same [] (x ∷ joined next done) ++ new
-          arrived =
-              ap (λ l. fresh same [] (x ∷ l)) (joined-push next done w)
-              ∙ fresh-append [] (x ∷ joined next done) (next w)
-              ∙ ap (λ l. fresh same [] (x ∷ joined next done) ++ fresh same l (next w)) (append-nil (fresh same [] (x ∷ joined next done)) ∙ sym (i .came))
+          -- the neighbours of a node whose turn is over are met
+          over : (e z : X) → In done e → In (next e) z → In met z
+          over e z j k = go (i .closed e z (subst (λ l. In l e) (sym (i .order)) (in-left done (w ∷ waiting) e j)) k)
+            where
+              twice : (l m : List X) → Distinct (l ++ m) → In l e → In m e → ⊥
+              twice [] m d a b = a
+              twice (v ∷ l) m d (inl s) b = d .0 (subst (λ u. In (l ++ m) u) s (in-right l m e b))
+              twice (v ∷ l) m d (inr a) b = twice l m (d .1) a b
+
+              go : In met z ⊎ In (w ∷ waiting) e → In met z
+              go (inl h) = h
+              go (inr h) = absurd (twice done (w ∷ waiting) (subst (λ l. Distinct l) (i .order) (i .once)) j h)
+
+          stand : (before : List X) (y : X) (behind : List X)
+              → ((more : List X) × (met ≡ before ++ (y ∷ more))) ⊎ ((front : List X) × (before ≡ met ++ front) × (new ≡ front ++ (y ∷ behind)))
+              → ((before ≡ []) × (y ≡ x)) ⊎ MetBehind next before y
+          stand before y behind (inl (more, e)) = i .ordered before y more e
+          stand before y behind (inr (front, e, f)) =
+              let (left, right, g, h) = fresh-split met (next w) front y behind f in
+              inr (
+                done,
+                w,
+                waiting ++ front,
+                left,
+                right,
+                e ∙ ap (λ l. l ++ front) (i .order) ∙ append-assoc done (w ∷ waiting) front,
+                g,
+                λ v j. subst (λ l. In l v) (sym e) (here-or v (h v j)),
+                λ d v j k. subst (λ l. In l v) (sym e) (in-left met front v (over d v j k)),
+              )
+            where
+              here-or : (v : X) → In met v ⊎ In front v → In (met ++ front) v
+              here-or v (inl j) = in-left met front v j
+              here-or v (inr j) = in-right met front v j
 
     explored : (turns : ℕ) (done met waiting : List X) → Inv turns done met waiting → Result (explore same next room turns met waiting)
     unfolding new
@@ -256,12 +282,17 @@ module _ {X : Type 0} (same : X → X → Bool) (decides : (a b : X) → Decides
               closed = λ y z i j. inr i;
               budget = omega arith;
               order = refl;
-              came = refl;
+              ordered = λ before y behind e. only before y behind e;
             })
           where
             first : (y : X) → (y ≡ x) ⊎ ⊥ → Leads next x y
             first y (inl e) = subst (λ z. Leads next x z) (sym e) here
             first y (inr b) = absurd b
+
+            only : (before : List X) (y : X) (behind : List X) → x ∷ [] ≡ before ++ (y ∷ behind)
+                → ((before ≡ []) × (y ≡ x)) ⊎ MetBehind next before y
+            only [] y behind e = inl (refl, cc)
+            only (v ∷ before) y behind e = absurd (omega (arith, ap length e, length-append before (y ∷ behind)))
         go (inr n) =
             let h : room < 1 = leb-false 1 room n in
             let e : reached-from same next room x ≡ none = rw (n, reached-from) in
@@ -277,5 +308,5 @@ search-exact X same next decides room x = (
   λ e. subst (Result same decides next room x) e (searched same decides next room x),
 )
   where
-    list : (L : List X) → Listed same decides next room x L → Distinct L × (length L ≤ room) × ((y : X) → In L y ↔ Leads next x y) × (L ≡ fresh same [] (x ∷ joined next L))
-    list L r = (r .once, r .few, λ y. (r .has y, r .all y), r .order)
+    list : (L : List X) → Listed same decides next room x L → Distinct L × (length L ≤ room) × ((y : X) → In L y ↔ Leads next x y) × InMeetingOrder next x L
+    list L r = (r .once, r .few, λ y. (r .has y, r .all y), r .ordered)

@@ -109,11 +109,11 @@ module _ (A : Automaton) (capacity : ℕ) where
     where
       on : (L : List Position) → reach A c capacity ≡ some L → Reached A c capacity (some L) → (Below (suc c) → Solved limit (try-from A capacity turns (suc c)))
           → (member (safe-part A L) (start-position A) ≡ true) ⊎ (member (safe-part A L) (start-position A) ≡ false) → Solved limit (try-from A capacity (suc turns) c)
-      on L r (d, few, lists) later (inl t) =
+      on L r (d, few, lists, ordered) later (inl t) =
           let f : try-from A capacity (suc turns) c ≡ found (found-in A c (safe-part A L)) = rw (r, t, try-from) in
           let b : Best (found-in A c (safe-part A L)) c = best-here c L few lists below t in
           subst (Solved limit) (sym f) (record { formed = b .formed; exact = b .exact; least = b .least; limited = omega arith; roomy = b .roomy; described = b .described; few = b .few; valid = b .valid; shape = b .shape; nexts = b .nexts })
-      on L r (d, few, lists) later (inr n) =
+      on L r (d, few, lists, ordered) later (inr n) =
           let f : try-from A capacity (suc turns) c ≡ try-from A capacity turns (suc c) = rw (r, n, try-from) in
           subst (Solved limit) (sym f) (later (below-more c below (uncrowded c L few lists, none-here c L few lists n)))
 

@@ -9,6 +9,6 @@ pub mod Refusals
 pub mod File
 pub mod Sheet
 pub mod ReadingLaws
-pub mod Laws
+pub mod SearchLaws
 pub mod History
 pub mod Worked

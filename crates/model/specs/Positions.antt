@@ -3,13 +3,14 @@ use Prim.Native.Nat.{ℕ, zero, suc, _+_, _≤_, _<_, max}
 use mathlib.Core.Path.{_≡_}
 use mathlib.Core.Bool.{Bool, true, false, cond, _&&_}
 use mathlib.Core.List.{List, [], _∷_, _++_, map}
+use mathlib.Core.Logic.{_⊎_}
 use mathlib.Core.Option.{Option, none, some}
 use lib.ListN.{length, getD}
 use lib.Dec.{eqb, leb, ltb}
 use Rattle.std.specs.Iters.{counting}
 use Rattle.std.specs.Runs.{kept-by}
 use Rattle.model.specs.Automaton.{Automaton, weight, Controller, Row}
-use Rattle.model.specs.Search.{place, fresh, reached-from}
+use Rattle.model.specs.Search.{place, reached-from}
 use Rattle.model.specs.Lists.{every, any, joined, In, Distinct}
 
 -- a mark for each rule state: 0 where it is absent, t + 1 where it has the tally t
@@ -85,11 +86,15 @@ Stays A c u P = (x : ℕ) → x < A .situations → InSafe A c (step A u x P)
 abbrev pub steps : Automaton → Position → ℕ → List Position
 steps A P u = map (λ x. step A u x P) (counting 0 (A .situations))
 
--- Reach(c) in the order of meeting, by ascending command and situation; none, if it has more positions than the capacity
+-- the steps not over c, by ascending command and situation
+abbrev pub successors : Automaton → ℕ → Position → List Position
+successors A c P = kept-by (fits c) (joined (steps A P) (counting 0 (A .commands)))
+
+-- Reach(c) in the order of meeting; none, if it has more positions than the capacity
 abbrev pub reach : Automaton → ℕ → ℕ → Option (List Position)
 reach A c capacity =
     elim (fits c (start-position A)) [
-      | true ↦ reached-from same (λ P. kept-by (fits c) (joined (steps A P) (counting 0 (A .commands)))) capacity (start-position A)
+      | true ↦ reached-from same (successors A c) capacity (start-position A)
       | false ↦ some []
     ]
 
@@ -134,8 +139,20 @@ row-at A R met P =
     let u = command-at A R P in
     record { command = u; nexts = map (place same met) (steps A P u) }
 
+-- In the state s′ and the situation x′ one looks before one looks in s and x
+abbrev pub LooksBefore : ℕ → ℕ → ℕ → ℕ → Type 0
+LooksBefore s′ x′ s x = (s′ < s) ⊎ ((s′ ≡ s) × (x′ < x))
+
+-- Numbers are given as states are met, from state 0 on, by ascending state and situation: each other state is first met from a state
+-- with a lower number, and all that is met before it has a lower number
+abbrev pub NumberedAsMet : ℕ → Controller → Type 0
+NumberedAsMet S K =
+    (j : ℕ) → 0 < j → j < K .size
+    → (s : ℕ) × (x : ℕ) × (s < j) × (x < S) × (K .next s x ≡ j)
+    × ((s′ x′ : ℕ) → x′ < S → LooksBefore s′ x′ s x → K .next s′ x′ < j)
+
 -- The states of a controller are these positions: state 0 has the start, each has its lowest command that stays in the largest safe
--- set, and its steps are its next states; and they are numbered as they are met, by ascending state and situation
+-- set, its steps are its next states, and states are numbered as they are met
 pub record Described (A : Automaton) (c : ℕ) (K : Controller) (positions : List Position) : Type 0 where
   pub long : length positions ≡ K .size
   pub once : Distinct positions
@@ -144,7 +161,7 @@ pub record Described (A : Automaton) (c : ℕ) (K : Controller) (positions : Lis
   pub stays : (s : ℕ) → s < K .size → Stays A c (K .command s) (getD positions s [])
   pub lowest-stays : (s u : ℕ) → s < K .size → u < K .command s → Stays A c u (getD positions s []) → ⊥
   pub nexts : (s x : ℕ) → s < K .size → x < A .situations → getD positions (K .next s x) [] ≡ step A (K .command s) x (getD positions s [])
-  pub order : positions ≡ fresh same [] (start-position A ∷ joined (λ s. steps A (getD positions s []) (K .command s)) (counting 0 (K .size)))
+  pub numbered : NumberedAsMet (A .situations) K
 
 -- what solve finds: the count, the controller, and the position of each of its states
 pub record Found : Type 0 where

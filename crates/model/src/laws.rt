@@ -2,7 +2,7 @@
 
 ghost use Rattle.model.specs.Worked.{Worked-Sheets-Hold};
 ghost use Rattle.model.specs.ReadingLaws.{Range-Exact, Lines-Unique, Reading-Exact, Faults-Exact, Words-Exact, Line-Exact, Numbers-Stand, Reached-Exact, Meaning-Exact};
-ghost use Rattle.model.specs.Laws.{Both-Search-Exactly, Reach-Exact, Safe-Part-Largest};
+ghost use Rattle.model.specs.SearchLaws.{Both-Search-Exactly, Reach-Exact, Safe-Part-Largest};
 ghost use Rattle.model.specs.History.{After-Calls, Together-Agrees, Rules-Fit, Rules-Stand, Check-Exact, Solve-Least, Frames-Stay, History-Law, Stored-Best, Written-Accepted, Accepted-Is-File, Refusals-Keep, Refused-Sheet};
 
 /// The sheets worked through answer as expected.

@@ -16,7 +16,7 @@ use Rattle.model.specs.Automaton.{Automaton, Starts, Follows}
 use Rattle.model.specs.Search.{reached-from}
 use Rattle.model.specs.Lists.{any, joined, In, Distinct}
 use Rattle.model.specs.Text.{TextRule, meaning, neighbours, reached, all-reached}
-use Rattle.model.specs.Laws.{Leads, here, further}
+use Rattle.model.specs.SearchLaws.{Leads, here, further}
 use Rattle.model.specs.ReadingLaws.{Reached, at-start, by-arrow, AllReached}
 use Rattle.model.proofs.Reading.Basics.{by-test, true-false}
 use Rattle.model.proofs.Lists.{in-joined, joined-in, in-counting, counting-in, pigeons}
