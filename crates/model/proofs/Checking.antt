@@ -25,7 +25,7 @@ use Rattle.model.specs.declared.refusal.Refusal.the-variants.{Trailer, OtherSh
 use Rattle.model.specs.File as File
 use Rattle.model.specs.Sheet.{Sheet, rule-list, rules, check, accepted, Outcome, verdict, respond, answer, opened, run}
 use Rattle.model.specs.History.{rows-of, FileOf, ForSheet, Accepts, Check-Exact, After-Calls}
-use Rattle.model.proofs.Theory.{Marking, Valid}
+use Rattle.model.specs.CountLaws.{Marking, Valid}
 use Rattle.model.proofs.Lists.{in-map, map-in, in-joined, joined-in, in-counting, counting-in, decides-every}
 use Rattle.model.proofs.Paths.{certificate-sound}
 use Rattle.model.proofs.Tallies.{certificate-exact}

@@ -18,7 +18,7 @@ use Rattle.model.specs.Search.{place, fresh, reached-from}
 use Rattle.model.specs.Lists.{every, any, joined, In, Distinct}
 use Rattle.model.specs.Positions.{LooksBefore, NumberedAsMet, Position, mark, start-position, step, Fits, same, Reach, steps, holds, safe-part, lowest, command-at, states-met, row-at, Found, found-in, InSafe, Described}
 use Rattle.model.specs.SearchLaws.{Leads, here, further, MetBehind}
-use Rattle.model.proofs.Theory.{Valid}
+use Rattle.model.specs.CountLaws.{Valid}
 use Rattle.model.proofs.Lists.{map-in, in-counting, counting-in, decides-same, in-getD, pigeons, place-in, in-index, one-place}
 use Rattle.model.proofs.Searches.{Listed, Over, Result, searched}
 use Rattle.model.proofs.Reaching.{in-steps, steps-in, decides-holds, part-in, part-kept, part-fits, part-safe, part-largest, reach-length}

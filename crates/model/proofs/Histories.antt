@@ -20,11 +20,11 @@ use Rattle.model.specs.Positions.{Found, found, none-found, too-crowded, Searc
 use Rattle.model.specs.Positions as Positions
 use Rattle.model.specs.Sheet.{Sheet, Stored, look, opened, rule-list, rules, with-added, with-limit, with-stored, Call, add, withdraw, limit, solve, frame, write, check, Answer, done, count, command, wrote, accepted, refused, Outcome, answers, same-name, row-in, add-to, withdraw-from, limit-on, solve-on, frame-on, write-on, on-good-sheet, respond, answer, after, run, replies, verdict}
 use Rattle.model.specs.File as File
-use Rattle.model.specs.History.{ForSheet, NoneOnSheet, OverCapacity, Solve-Least, After-Calls, Frame, given-by, frame-of, frames, last-given, Along, Frames-Within, Together-Agrees}
+use Rattle.model.specs.History.{ForSheet, NoneOnSheet, OverCapacity, Solve-Least, After-Calls, Frame, given-by, frame-of, frames, last-given, Along, Frames-Within}
 use Rattle.model.specs.History as History
 use Rattle.model.proofs.Paths.{bounded-is-finite}
 use Rattle.model.proofs.Solving.{Best, Below, Solved, solved}
-use Rattle.model.proofs.Sides.{Alike, together-agrees}
+use Rattle.model.proofs.Sides.{together-agrees}
 use Rattle.model.proofs.Sheets.{of-rule, Sound, opened-sound, run-sound, after-sound, respond-is, solve-then, solve-is, next-state, frame-none, frame-large, frame-moves, write-is, for-sheet, for-rules}
 
 module _ (s : Sheet) (h : Sound s) where

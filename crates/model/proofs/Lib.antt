@@ -10,6 +10,7 @@ pub mod Searches
 pub mod Reaching
 pub mod Finding
 pub mod Solving
+pub mod Parts
 pub mod Sides
 pub mod Sheets
 pub mod Histories
@@ -22,3 +23,6 @@ pub mod Storing
 pub mod Unpacking
 pub mod Refusing
 pub mod Reading
+pub mod Cycles
+pub mod Counts
+pub mod Turns

@@ -6,9 +6,10 @@ use native.Mathlib.Omega.{arith}
 use native.Mathlib.Nat.{add-assoc}
 use native.Mathlib.Numerals.{add-one}
 use Rattle.model.specs.Automaton.{Automaton, Controller, weight, Starts, Follows, WellFormed, Path, begin, onward, AtMost, Trail, arrow, further, RejectingCycle}
-use Rattle.model.proofs.Theory.{Endless}
-use Rattle.model.proofs.Theory.{Marking, Valid}
-use Rattle.model.proofs.Theory.{Certificate-Sound, Bounded-Is-Finite, visits}
+use Rattle.model.specs.Automaton.{Endless}
+use Rattle.model.specs.CountLaws.{Marking, Valid}
+use Rattle.model.specs.CountLaws.{visits}
+use Rattle.model.proofs.Theory.{Certificate-Sound, Bounded-Is-Finite}
 
 module _ (A : Automaton) (K : Controller) (wf : WellFormed A K) where
   -- a path stays among the states of both

@@ -14,7 +14,7 @@ use Rattle.std.proofs.shelf.Ways.{tells}
 use Rattle.model.specs.Automaton.{Automaton, Controller, weight, Starts, Follows, WellFormed, Path, begin, onward, AtMost, Exceeds}
 use Rattle.model.specs.Positions.{Position, mark, largest, first-mark, start-position, handed, step, Fits, Reach, at-start, by-step, Holds, Safe}
 use Rattle.model.proofs.Theory.{Run, from-start, then, RunsTo}
-use Rattle.model.proofs.Theory.{Tallies-Exact, Runs-Safe}
+use Rattle.model.proofs.Theory.{Runs-Tally, Runs-Safe}
 use Rattle.model.proofs.Paths.{path-inside}
 
 largest-upper : (f : ℕ → ℕ) (n i : ℕ) → i < n → f i ≤ largest f n
@@ -128,8 +128,8 @@ module _ (A : Automaton) where
         runs-keep : Safe A c (RunsTo A K)
         runs-keep P (s, r) = (K .command s, wf .commands s (run-inside r), λ x h. (run-fits (then x r h), (K .next s x, then x r h)))
 
-pub tallies-exact : Tallies-Exact
-tallies-exact A K = (λ s q t P r e. run-path A K r q t (present-inside A K r q (omega arith)) e, λ s q t w. path-run A K w)
+pub runs-tally : Runs-Tally
+runs-tally A K = (λ s q t P r e. run-path A K r q t (present-inside A K r q (omega arith)) e, λ s q t w. path-run A K w)
 
 pub runs-safe : Runs-Safe
 runs-safe A K c wf most = (run-fits A K wf c most from-start, (0, from-start), runs-keep A K wf c most, λ P r. run-reach A K wf c most (r .1))

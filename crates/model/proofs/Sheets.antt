@@ -22,7 +22,8 @@ use Rattle.model.specs.Positions as Positions
 use Rattle.model.specs.Sheet.{Sheet, Stored, look, opened, rule-list, rules, with-added, with-limit, with-stored, Call, add, withdraw, limit, solve, frame, write, check, Answer, done, count, command, wrote, accepted, refused, Outcome, answers, same-name, row-in, add-to, withdraw-from, limit-on, solve-on, frame-on, write-on, file-of, verdict, on-good-sheet, respond, answer, after, run}
 use Rattle.model.specs.History.{ForSheet, Rules-Fit, After-Calls}
 use Rattle.model.proofs.Lists.{in-append, in-map, map-in, kept-by-in}
-use Rattle.model.proofs.Sides.{Alike, together-alike}
+use Rattle.model.specs.CountLaws.{RulesFor}
+use Rattle.model.proofs.Sides.{together-alike}
 
 total : List Automaton → ℕ
 total [] = 0
@@ -53,7 +54,7 @@ of-rule a = a .rule
 
 pub record Sound (s : Sheet) : Type 0 where
   pub looked : look (s .house) (s .situations) (s .commands) (s .capacity) ≡ none
-  pub alike : Alike (s .situations) (s .commands) (rule-list s)
+  pub alike : RulesFor (s .situations) (s .commands) (rule-list s)
   pub small : rules s .states ≤ 16
   pub limited : s .limit ≤ 14
   pub roomy : s .capacity ≤ 1024

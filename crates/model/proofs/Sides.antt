@@ -11,7 +11,8 @@ use Rattle.std.proofs.shelf.Tests.{cases-bool, cases-lt, lt-ltb, le-ltb, ltb-tr
 use Rattle.model.specs.Automaton.{Automaton, weight, Starts, Follows, Controller, Path, begin, onward, AtMost, Exceeds, HasCount, CountAtMost, CountAbove, CountIs}
 use Rattle.model.specs.Rules.{beside, together}
 use Rattle.model.specs.Lists.{In}
-use Rattle.model.specs.History.{Together-Agrees}
+use Rattle.model.proofs.Parts.{left-start, left-reject, left-follows, right-start, right-reject, right-follows}
+use Rattle.model.specs.CountLaws.{RulesFor, Together-Agrees}
 
 -- the states of A are those of B under f
 record Within (A B : Automaton) (f : ℕ → ℕ) : Type 0 where
@@ -32,32 +33,6 @@ module _ (S : ℕ) (A B : Automaton) (hA : A .situations ≡ S) (hB : B .situati
   AB : Automaton
   AB = beside A B
 
-  left-start : (q : ℕ) → q < A .states → AB .start q ≡ A .start q
-  unfolding AB
-  left-start q h = rw (lt-ltb q (A .states) h)
-
-  left-reject : (q : ℕ) → q < A .states → AB .reject q ≡ A .reject q
-  unfolding AB
-  left-reject q h = rw (lt-ltb q (A .states) h)
-
-  left-follows : (q u x p : ℕ) → q < A .states → AB .follows q u x p ≡ (ltb p (A .states) && A .follows q u x p)
-  unfolding AB
-  left-follows q u x p h =
-      ap {B = Bool} (λ (b : Bool). elim b [ true ↦ ltb p (A .states) && A .follows q u x p | false ↦ not (ltb p (A .states)) && B .follows (q - A .states) u x (p - A .states) ]) (lt-ltb q (A .states) h)
-
-  right-start : (q : ℕ) → A .states ≤ q → AB .start q ≡ B .start (q - A .states)
-  unfolding AB
-  right-start q h = rw (le-ltb q (A .states) h)
-
-  right-reject : (q : ℕ) → A .states ≤ q → AB .reject q ≡ B .reject (q - A .states)
-  unfolding AB
-  right-reject q h = rw (le-ltb q (A .states) h)
-
-  right-follows : (q u x p : ℕ) → A .states ≤ q → AB .follows q u x p ≡ (not (ltb p (A .states)) && B .follows (q - A .states) u x (p - A .states))
-  unfolding AB
-  right-follows q u x p h =
-      ap {B = Bool} (λ (b : Bool). elim b [ true ↦ ltb p (A .states) && A .follows q u x p | false ↦ not (ltb p (A .states)) && B .follows (q - A .states) u x (p - A .states) ]) (le-ltb q (A .states) h)
-
   states-is : AB .states ≡ A .states + B .states
   unfolding AB
   states-is = refl
@@ -67,35 +42,37 @@ module _ (S : ℕ) (A B : Automaton) (hA : A .situations ≡ S) (hB : B .situati
   situations-is = omega arith
 
   left-within : Within A AB (λ q. q)
+  unfolding AB
   left-within =
       record {
-        starts = λ q b. record { inside = omega (arith, states-is, b .inside); starts = left-start q (b .inside) ∙ b .starts };
+        starts = λ q b. record { inside = omega (arith, states-is, b .inside); starts = left-start A B q (b .inside) ∙ b .starts };
         follows = λ q u x p h f.
             record {
               known = omega (arith, situations-is, f .known);
               inside = omega (arith, states-is, f .inside);
-              follows = left-follows q u x p h ∙ and-from (ltb p (A .states)) (A .follows q u x p) (lt-ltb p (A .states) (f .inside)) (f .follows);
+              follows = left-follows A B q u x p h ∙ and-from (ltb p (A .states)) (A .follows q u x p) (lt-ltb p (A .states) (f .inside)) (f .follows);
             };
-        hits = λ q h. ap (λ b. cond b 1 0) (left-reject q h);
+        hits = λ q h. ap (λ b. cond b 1 0) (left-reject A B q h);
       }
 
   back : (q : ℕ) → A .states + q - A .states ≡ q
   back q = omega arith
 
   right-within : Within B AB (λ q. A .states + q)
+  unfolding AB
   right-within =
       record {
-        starts = λ q b. record { inside = omega (arith, states-is, b .inside); starts = right-start (A .states + q) (omega arith) ∙ ap (B .start) (back q) ∙ b .starts };
+        starts = λ q b. record { inside = omega (arith, states-is, b .inside); starts = right-start A B (A .states + q) (omega arith) ∙ ap (B .start) (back q) ∙ b .starts };
         follows = λ q u x p h f.
             record {
               known = omega (arith, situations-is, f .known);
               inside = omega (arith, states-is, f .inside);
-              follows = right-follows (A .states + q) u x (A .states + p) (omega arith)
+              follows = right-follows A B (A .states + q) u x (A .states + p) (omega arith)
                   ∙ and-from (not (ltb (A .states + p) (A .states))) (B .follows (A .states + q - A .states) u x (A .states + p - A .states))
                   (not-from-false (ltb (A .states + p) (A .states)) (le-ltb (A .states + p) (A .states) (omega arith)))
                   (subst₂ (λ i j. B .follows i u x j ≡ true) (sym (back q)) (sym (back p)) (f .follows));
             };
-        hits = λ q h. ap (λ b. cond b 1 0) (right-reject (A .states + q) (omega arith) ∙ ap (B .reject) (back q));
+        hits = λ q h. ap (λ b. cond b 1 0) (right-reject A B (A .states + q) (omega arith) ∙ ap (B .reject) (back q));
       }
 
   -- a path of the two is a path of the one that its last state is of
@@ -103,57 +80,54 @@ module _ (S : ℕ) (A B : Automaton) (hA : A .situations ≡ S) (hB : B .situati
   Either K s q t = ((q < A .states) × Path A K s q t) ⊎ ((A .states ≤ q) × Path B K s (q - A .states) t)
 
   split : (K : Controller) {s q t : ℕ} → Path AB K s q t → Either K s q t
-  unfolding Either
+  unfolding Either AB
   split K (begin {q} b) = go (cases-lt q (A .states))
     where
       go : (q < A .states) ⊎ (A .states ≤ q) → Either K 0 q (weight AB q)
       go (inl h) =
-          inl (h, subst (λ n. Path A K 0 q n) (ap (λ b. cond b 1 0) (sym (left-reject q h))) (begin (record { inside = h; starts = sym (left-start q h) ∙ b .starts })))
+          inl (h, subst (λ n. Path A K 0 q n) (ap (λ b. cond b 1 0) (sym (left-reject A B q h))) (begin (record { inside = h; starts = sym (left-start A B q h) ∙ b .starts })))
       go (inr h) =
           inr (
             h,
-            subst (λ n. Path B K 0 (q - A .states) n) (ap (λ b. cond b 1 0) (sym (right-reject q h)))
-                (begin (record { inside = omega (arith, states-is, b .inside); starts = sym (right-start q h) ∙ b .starts })),
+            subst (λ n. Path B K 0 (q - A .states) n) (ap (λ b. cond b 1 0) (sym (right-reject A B q h)))
+                (begin (record { inside = omega (arith, states-is, b .inside); starts = sym (right-start A B q h) ∙ b .starts })),
           )
   split K (onward {s} {q} {t} x p w f) = go (split K w)
     where
       go : Either K s q t → Either K (K .next s x) p (t + weight AB p)
       go (inl (h, v)) =
           let u : ℕ = K .command s in
-          let (a, b) = and-parts (ltb p (A .states)) (A .follows q u x p) (sym (left-follows q u x p h) ∙ f .follows) in
+          let (a, b) = and-parts (ltb p (A .states)) (A .follows q u x p) (sym (left-follows A B q u x p h) ∙ f .follows) in
           let hp : p < A .states = ltb-true p (A .states) a in
           inl (
             hp,
-            subst (λ n. Path A K (K .next s x) p (t + n)) (ap (λ b. cond b 1 0) (sym (left-reject p hp)))
+            subst (λ n. Path A K (K .next s x) p (t + n)) (ap (λ b. cond b 1 0) (sym (left-reject A B p hp)))
                 (onward x p v (record { known = omega (arith, situations-is, f .known); inside = hp; follows = b })),
           )
       go (inr (h, v)) =
           let u : ℕ = K .command s in
-          let (a, b) = and-parts (not (ltb p (A .states))) (B .follows (q - A .states) u x (p - A .states)) (sym (right-follows q u x p h) ∙ f .follows) in
+          let (a, b) = and-parts (not (ltb p (A .states))) (B .follows (q - A .states) u x (p - A .states)) (sym (right-follows A B q u x p h) ∙ f .follows) in
           let hp : A .states ≤ p = ltb-false p (A .states) (not-true (ltb p (A .states)) a) in
           inr (
             hp,
-            subst (λ n. Path B K (K .next s x) (p - A .states) (t + n)) (ap (λ b. cond b 1 0) (sym (right-reject p hp)))
+            subst (λ n. Path B K (K .next s x) (p - A .states) (t + n)) (ap (λ b. cond b 1 0) (sym (right-reject A B p hp)))
                 (onward x (p - A .states) v (record { known = omega (arith, situations-is, f .known); inside = omega (arith, states-is, f .inside); follows = b })),
           )
 
-abbrev pub Alike : ℕ → ℕ → List Automaton → Type 0
-Alike S C rules = (A : Automaton) → In rules A → (A .situations ≡ S) × (A .commands ≡ C)
-
 module _ (S C : ℕ) where
-  alike-beside : (house A : Automaton) (rest : List Automaton) → Alike S C (house ∷ (A ∷ rest)) → Alike S C (beside house A ∷ rest)
+  alike-beside : (house A : Automaton) (rest : List Automaton) → RulesFor S C (house ∷ (A ∷ rest)) → RulesFor S C (beside house A ∷ rest)
   alike-beside house A rest h B (inl e) =
       let (a, b) = h house (inl refl) in
       let (c, d) = h A (inr (inl refl)) in
       subst (λ D. (D .situations ≡ S) × (D .commands ≡ C)) (sym e) (omega arith, omega arith)
   alike-beside house A rest h B (inr i) = h B (inr (inr i))
 
-  pub together-alike : (house : Automaton) (rest : List Automaton) → Alike S C (house ∷ rest) → (together house rest .situations ≡ S) × (together house rest .commands ≡ C)
+  pub together-alike : (house : Automaton) (rest : List Automaton) → RulesFor S C (house ∷ rest) → (together house rest .situations ≡ S) × (together house rest .commands ≡ C)
   together-alike house [] h = h house (inl refl)
   together-alike house (A ∷ rest) h = together-alike (beside house A) rest (alike-beside house A rest h)
 
   module _ (K : Controller) where
-    pub from-together : (house : Automaton) (rest : List Automaton) → Alike S C (house ∷ rest) → {s q t : ℕ} → Path (together house rest) K s q t
+    pub from-together : (house : Automaton) (rest : List Automaton) → RulesFor S C (house ∷ rest) → {s q t : ℕ} → Path (together house rest) K s q t
         → (A : Automaton) × In (house ∷ rest) A × (p : ℕ) × Path A K s p t
     unfolding AB Either
     from-together house [] h {s} {q} {t} w = (house, inl refl, q, w)
@@ -170,7 +144,7 @@ module _ (S C : ℕ) where
         go (B, inl e, p, v) = pick p (halves p (subst (λ D. Path D K s p t) e v))
         go (B, inr i, p, v) = (B, inr (inr i), p, v)
 
-    pub to-together : (house : Automaton) (rest : List Automaton) → Alike S C (house ∷ rest) → (A : Automaton) → In (house ∷ rest) A → {s q t : ℕ} → Path A K s q t
+    pub to-together : (house : Automaton) (rest : List Automaton) → RulesFor S C (house ∷ rest) → (A : Automaton) → In (house ∷ rest) A → {s q t : ℕ} → Path A K s q t
         → (p : ℕ) × Path (together house rest) K s p t
     unfolding AB
     to-together house [] h A (inl e) {s} {q} {t} w = (q, subst (λ D. Path D K s q t) e w)

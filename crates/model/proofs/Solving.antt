@@ -12,7 +12,8 @@ use Rattle.model.specs.Automaton.{Automaton, Row, Controller, WellFormed, Path
 use Rattle.model.specs.Lists.{In, Distinct}
 use Rattle.model.specs.Positions.{Position, mark, start-position, Fits, Reach, MoreThan, Safe, reach, member, safe-part, Found, found-in, Described, Search, found, none-found, too-crowded, try-from, solve}
 use Rattle.model.specs.History.{NoneWithin}
-use Rattle.model.proofs.Theory.{RunsTo, Valid}
+use Rattle.model.specs.CountLaws.{Valid}
+use Rattle.model.proofs.Theory.{RunsTo}
 use Rattle.model.proofs.Lists.{pigeons}
 use Rattle.model.proofs.Reaching.{decides-member, Reached, reached, part-largest}
 use Rattle.model.proofs.Finding.{found-formed, found-within, found-valid, found-few, found-shape, found-nexts, found-described}

@@ -28,7 +28,7 @@ use Rattle.model.specs.declared.refusal.Refusal.the-variants.{Trailer, OtherSh
 use Rattle.model.specs.File as File
 use Rattle.model.specs.Sheet.{Sheet, Stored, look, opened, rules, rule-list, with-added, with-limit, with-stored, Call, add, withdraw, limit, solve, frame, write, check, Answer, done, count, command, wrote, accepted, refused, Outcome, answers, same-name, row-in, add-to, withdraw-from, limit-on, solve-on, frame-on, write-on, file-of, verdict, on-good-sheet, respond, answer, after, run}
 use Rattle.model.specs.History.{rows-of, FileOf, ForSheet, Stored-Best, Written-Accepted, After-Calls}
-use Rattle.model.proofs.Theory.{Valid}
+use Rattle.model.specs.CountLaws.{Valid}
 use Rattle.model.proofs.Lists.{in-getD, joined-counting}
 use Rattle.model.proofs.Solving.{Best, Solved, solved}
 use Rattle.model.proofs.Sheets.{Sound, opened-sound, run-sound, after-sound, respond-is, solve-then, solve-is, next-state, frame-none, frame-large, frame-moves, write-none, write-short, write-fits, write-is, for-sheet, for-rules, for-is}

@@ -8,7 +8,7 @@ use lib.Dec.{eqb}
 use Rattle.std.proofs.shelf.Ways.{tells}
 use Rattle.std.proofs.shelf.Tests.{cases-lt, cases-bool}
 use Rattle.model.specs.Automaton.{Automaton, Controller, weight, Starts, Follows, WellFormed, Path, begin, onward, AtMost, Exceeds}
-use Rattle.model.proofs.Theory.{Marking, Valid}
+use Rattle.model.specs.CountLaws.{Marking, Valid}
 use Rattle.model.proofs.Theory.{Certificate-Exact, Count-Decided}
 use Rattle.model.proofs.Paths.{certificate-sound}
 use Rattle.model.proofs.Finite.{all-or-stop, sum, sum-le, sum-lt, sum-bound, settle}

@@ -10,6 +10,7 @@ use Rattle.std.specs.Iters.{counting}
 use Rattle.model.specs.Automaton.{Automaton, weight, Starts, Follows, Controller, WellFormedFor, WellFormed, AtMost, Exceeds, HasCount, CountAtMost, CountAbove, CountIs, NoRejectingCycle, Row, controller}
 use Rattle.model.specs.Rules.{together}
 use Rattle.model.specs.Lists.{In}
+use Rattle.model.specs.CountLaws.{RulesFor}
 use Rattle.model.specs.Text.{Named, filled}
 use Rattle.model.specs.Positions.{MoreThan, Described}
 use Rattle.model.specs.File.{file}
@@ -140,21 +141,10 @@ Frames-Within s later =
     → (fs gs : List Frame) → frames later since ≡ fs ++ gs
     → (A : Automaton) → In (rule-list s) A → (q t : ℕ) → Along A u fs q t → t ≤ c
 
--- the count over rules for the same situations and commands is that of the rules side by side
-abbrev pub Together-Agrees : Type 0
-Together-Agrees =
-    (S C : ℕ) (house : Automaton) (added : List Automaton)
-    → ((A : Automaton) → In (house ∷ added) A → (A .situations ≡ S) × (A .commands ≡ C))
-    → (K : Controller) (c : ℕ)
-    → (CountAtMost (house ∷ added) K c ↔ AtMost (together house added) K c)
-    × (CountAbove (house ∷ added) K c ↔ Exceeds (together house added) K c)
-    × (CountIs (house ∷ added) K c ↔ HasCount (together house added) K c)
-
 -- every rule on the sheet is for its situations and commands, and together they have at most 16 states
 abbrev pub Rules-Fit : Sheet → Type 0
 Rules-Fit s =
-    ((A : Automaton) → In (rule-list s) A → (A .situations ≡ s .situations) × (A .commands ≡ s .commands))
-    × (rules s .states ≤ 16)
+    RulesFor (s .situations) (s .commands) (rule-list s) × (rules s .states ≤ 16)
 
 -- a sheet that calls led to, from one whose look refused nothing
 abbrev pub After-Calls : (Sheet → Type 0) → Type 0

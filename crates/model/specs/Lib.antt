@@ -9,6 +9,9 @@ pub mod Refusals
 pub mod File
 pub mod Sheet
 pub mod ReadingLaws
+pub mod RuleLaws
+pub mod CountLaws
+pub mod PositionLaws
 pub mod SearchLaws
 pub mod History
 pub mod Worked

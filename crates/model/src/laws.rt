@@ -2,8 +2,11 @@
 
 ghost use Rattle.model.specs.Worked.{Worked-Sheets-Hold};
 ghost use Rattle.model.specs.ReadingLaws.{Range-Exact, Lines-Unique, Reading-Exact, Faults-Exact, Words-Exact, Line-Exact, Numbers-Stand, Reached-Exact, Meaning-Exact};
+ghost use Rattle.model.specs.RuleLaws.{Nearest-Exact, Free-Exact, Reply-Exact, Pair-Exact, Together-Counts-On};
+ghost use Rattle.model.specs.CountLaws.{Certificates-Exact, Together-Agrees, Bounded-Without-Cycle, Count-Or-Cycle};
+ghost use Rattle.model.specs.PositionLaws.{Steps-Exact, Tallies-Exact};
 ghost use Rattle.model.specs.SearchLaws.{Both-Search-Exactly, Reach-Exact, Safe-Part-Largest};
-ghost use Rattle.model.specs.History.{After-Calls, Together-Agrees, Rules-Fit, Rules-Stand, Check-Exact, Solve-Least, Frames-Stay, History-Law, Stored-Best, Written-Accepted, Accepted-Is-File, Refusals-Keep, Refused-Sheet};
+ghost use Rattle.model.specs.History.{After-Calls, Rules-Fit, Rules-Stand, Check-Exact, Solve-Least, Frames-Stay, History-Law, Stored-Best, Written-Accepted, Accepted-Is-File, Refusals-Keep, Refused-Sheet};
 
 /// The sheets worked through answer as expected.
 pub fn worked_sheets_stand() -> u8
@@ -177,6 +180,62 @@ pub fn ranges_stand() -> u8
 /// No two lists of correct lines have the same bytes.
 pub fn lines_unique() -> u8
     ensures { λ _. ⌜ Lines-Unique ⌝ }
+{
+    0
+}
+
+/// Free and reply answer as their sentences say.
+pub fn built_in_rules_stand() -> u8
+    ensures { λ _. ⌜ Nearest-Exact × Free-Exact × Reply-Exact ⌝ }
+{
+    0
+}
+
+/// Two rules side by side are parts of one, and the pair is cut at 255 states.
+pub fn pair_stands() -> u8
+    ensures { λ _. ⌜ Pair-Exact ⌝ }
+{
+    0
+}
+
+/// The states of several rules count on from rule to rule.
+pub fn counting_on_stands() -> u8
+    ensures { λ _. ⌜ Together-Counts-On ⌝ }
+{
+    0
+}
+
+/// There is a valid certificate with the number c exactly if the count is at most c.
+pub fn certificates_stand() -> u8
+    ensures { λ _. ⌜ Certificates-Exact ⌝ }
+{
+    0
+}
+
+/// A bounded count leaves no reachable cycle through a rejecting state.
+pub fn bounds_stand() -> u8
+    ensures { λ _. ⌜ Bounded-Without-Cycle ⌝ }
+{
+    0
+}
+
+/// A controller has one count, or reaches a cycle through a rejecting state.
+pub fn counts_stand() -> u8
+    ensures { λ _. ⌜ Count-Or-Cycle ⌝ }
+{
+    0
+}
+
+/// The start and the step are the only positions of which their sentences hold.
+pub fn steps_stand() -> u8
+    ensures { λ _. ⌜ Steps-Exact ⌝ }
+{
+    0
+}
+
+/// A tally is the count of a path, and no path counts more.
+pub fn tallies_stand() -> u8
+    ensures { λ _. ⌜ Tallies-Exact ⌝ }
 {
     0
 }
