@@ -31,7 +31,8 @@ use Rattle.model.proofs.Paths.{certificate-sound}
 use Rattle.model.proofs.Tallies.{certificate-exact}
 use Rattle.model.proofs.Tables.{Agree, moved, formed, back}
 use Rattle.model.proofs.Files.{Plain, pieces-joined, joined-length, window, file-reads}
-use Rattle.model.proofs.Sheets.{of-rule, Sound, opened-sound, run-sound, respond-is, for-rules, for-is}
+use Rattle.model.proofs.Sheets.{of-rule, Sound, opened-sound, run-sound, for-rules, for-is}
+use Rattle.model.proofs.Calls.{respond-is}
 use Rattle.model.proofs.Histories.{agrees, no-cycle}
 
 pub first-none : {X : Type 0} (f : X → Bool) (L : List X) → first f L ≡ none → (x : X) → In L x → f x ≡ false

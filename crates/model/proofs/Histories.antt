@@ -13,19 +13,19 @@ use Rattle.std.proofs.shelf.Tests.{cases-bool, cases-lt, both-ways, leb-true, e
 use Rattle.model.specs.Automaton.{Automaton, weight, Starts, Follows, Controller, WellFormedFor, WellFormed, Path, begin, onward, AtMost, Exceeds, HasCount, CountAtMost, CountAbove, CountIs, NoRejectingCycle, controller}
 use Rattle.model.specs.Rules.{together}
 use Rattle.model.specs.Lists.{any, In}
-use Rattle.model.specs.Text.{Named, ReadRule, blank, filled}
 use Rattle.model.specs.declared.refusal.Refusal.{Refusal}
-use Rattle.model.specs.declared.refusal.Refusal.the-variants.{UnlikeRule, NameTaken, NoRoom, NoSuchName, OverLimit, NoneFound, Crowded, NoController, NoSituation}
+use Rattle.model.specs.declared.refusal.Refusal.the-variants.{NoneFound, Crowded}
 use Rattle.model.specs.Positions.{Found, found, none-found, too-crowded, Search, MoreThan}
 use Rattle.model.specs.Positions as Positions
-use Rattle.model.specs.Sheet.{Sheet, Stored, look, opened, rule-list, rules, with-added, with-limit, with-stored, Call, add, withdraw, limit, solve, frame, write, check, Answer, done, count, command, wrote, accepted, refused, Outcome, answers, same-name, row-in, add-to, withdraw-from, limit-on, solve-on, frame-on, write-on, on-good-sheet, respond, answer, after, run, replies, verdict}
+use Rattle.model.specs.Sheet.{Sheet, Stored, opened, rule-list, rules, solve, Answer, count, refused, Outcome, row-in, solve-with, respond, answer, run}
 use Rattle.model.specs.File as File
 use Rattle.model.specs.History.{ForSheet, NoneOnSheet, OverCapacity, Solve-Least, After-Calls, Frame, given-by, frame-of, frames, last-given, Along, Frames-Within}
 use Rattle.model.specs.History as History
 use Rattle.model.proofs.Paths.{bounded-is-finite}
 use Rattle.model.proofs.Solving.{Best, Below, Solved, solved}
 use Rattle.model.proofs.Sides.{together-agrees}
-use Rattle.model.proofs.Sheets.{of-rule, Sound, opened-sound, run-sound, after-sound, respond-is, solve-then, solve-is, next-state, frame-none, frame-large, frame-moves, write-is, for-sheet, for-rules}
+use Rattle.model.proofs.Calls.{respond-is}
+use Rattle.model.proofs.Sheets.{of-rule, Sound, opened-sound, run-sound, for-sheet, for-rules}
 
 module _ (s : Sheet) (h : Sound s) where
   pub agrees : (K : Controller) (c : ℕ)
@@ -35,8 +35,8 @@ module _ (s : Sheet) (h : Sound s) where
   pub no-cycle : (K : Controller) (c : ℕ) → CountAtMost (rule-list s) K c → NoRejectingCycle (rule-list s) K
   no-cycle K c most A i = bounded-is-finite A K c (most A i) .0
 
-  pub solve-answer : (x : Search) → Positions.solve (rules s) (s .capacity) (s .limit) ≡ x → respond s solve ≡ solve-then s x
-  solve-answer x e = respond-is s solve (h .looked) ∙ solve-is s x e
+  pub solve-answer : (x : Search) → Positions.solve (rules s) (s .capacity) (s .limit) ≡ x → respond s solve ≡ solve-with s x
+  solve-answer x e = respond-is s solve (h .looked) ∙ ap (solve-with s) e
 
   none-on : (c : ℕ) → History.NoneWithin (rules s) c → NoneOnSheet s c
   none-on c over K w = agrees K c .1 .1 (over K (for-rules s h K w))
@@ -49,7 +49,7 @@ module _ (s : Sheet) (h : Sound s) where
     where
       go : (x : Search) → Positions.solve (rules s) (s .capacity) (s .limit) ≡ x → Solved (rules s) (s .capacity) (s .limit) x → Solve-Least s
       go (found f) e b =
-          let r : respond s solve ≡ solve-then s (found f) = solve-answer (found f) e in
+          let r : respond s solve ≡ solve-with s (found f) = solve-answer (found f) e in
           let a : answer s solve ≡ count (f .count) (length (f .rows)) (row-in f 0 .command) = ap (λ (o : Outcome). o .answer) r in
           let K : Controller = controller (f .rows) in
           let over : CountIs (rule-list s) K (f .count) = agrees K (f .count) .2 .1 (b .exact) in (

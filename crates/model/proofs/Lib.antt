@@ -12,6 +12,7 @@ pub mod Finding
 pub mod Solving
 pub mod Parts
 pub mod Sides
+pub mod Calls
 pub mod Sheets
 pub mod Histories
 pub mod Framing

@@ -189,7 +189,7 @@ stays-part T [] n A p = p
 stays-part T (B ∷ rest) n A p =
     stays-part (beside T B) rest n A (subst (λ i. PartAt (beside T B) i A) (let e : 0 + n ≡ n = omega arith in e) (part-of-part (beside T B) T A 0 n (first-part T B) p))
 
-together-states : (T : Automaton) (rest : List Automaton) → together T rest .states ≡ total-states (T ∷ rest)
+pub together-states : (T : Automaton) (rest : List Automaton) → together T rest .states ≡ total-states (T ∷ rest)
 together-states T [] = omega arith
 together-states T (B ∷ rest) = let e : together (beside T B) rest .states ≡ T .states + B .states + total-states rest = together-states (beside T B) rest in omega arith
 

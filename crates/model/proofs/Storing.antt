@@ -15,23 +15,18 @@ use Rattle.std.proofs.shelf.Lists.{take-at, ext-getD}
 use Rattle.std.proofs.shelf.Counted.{fill-by-all, getD-map-counting}
 use Rattle.model.specs.Automaton.{Automaton, Controller, WellFormed, CountIs, Row, no-row, controller}
 use Rattle.model.specs.Lists.{any, joined, In}
-use Rattle.model.specs.Text.{Named, ReadRule, blank, filled}
-use Rattle.model.specs.declared.refusal.Refusal.{Refusal}
-use Rattle.model.specs.declared.refusal.Refusal.the-variants.{UnlikeRule, NameTaken, NoRoom, NoSuchName, OverLimit, NoController, NoSituation, ShortBuffer}
 use Rattle.model.specs.Positions.{Position, mark, Found, Search, found, none-found, too-crowded}
 use Rattle.model.specs.Positions as Positions
 use Rattle.model.specs.File.{tally-byte, tallies, file}
-use Rattle.std.specs.declared.result.Result.{Result}
-use Rattle.std.specs.declared.result.Result.the-variants.{Ok as accepts, Err}
-use Rattle.model.specs.declared.refusal.Place.{Place}
-use Rattle.model.specs.declared.refusal.Refusal.the-variants.{Trailer, OtherSheet, Layout, Record, Certificate}
 use Rattle.model.specs.File as File
-use Rattle.model.specs.Sheet.{Sheet, Stored, look, opened, rules, rule-list, with-added, with-limit, with-stored, Call, add, withdraw, limit, solve, frame, write, check, Answer, done, count, command, wrote, accepted, refused, Outcome, answers, same-name, row-in, add-to, withdraw-from, limit-on, solve-on, frame-on, write-on, file-of, verdict, on-good-sheet, respond, answer, after, run}
+use Rattle.model.specs.Sheet.{Sheet, Stored, opened, rules, rule-list, with-stored, Call, write, check, accepted, wrote, Outcome, file-of, verdict, respond, answer, after, run}
+use Rattle.model.specs.SheetLaws.{stored-controller, in-next, Does, add-blank, add-unlike, add-taken, add-full, adds, withdraw-unknown, withdraws, limit-over, limits, finds, finds-none, crowds, frame-none, frame-large, moves, write-none, write-short, writes, checks}
 use Rattle.model.specs.History.{rows-of, FileOf, ForSheet, Stored-Best, Written-Accepted, After-Calls}
 use Rattle.model.specs.CountLaws.{Valid}
 use Rattle.model.proofs.Lists.{in-getD, joined-counting}
 use Rattle.model.proofs.Solving.{Best, Solved, solved}
-use Rattle.model.proofs.Sheets.{Sound, opened-sound, run-sound, after-sound, respond-is, solve-then, solve-is, next-state, frame-none, frame-large, frame-moves, write-none, write-short, write-fits, write-is, for-sheet, for-rules, for-is}
+use Rattle.model.proofs.Calls.{does, respond-is}
+use Rattle.model.proofs.Sheets.{Sound, opened-sound, run-sound, after-sound, for-sheet, for-rules, for-is}
 use Rattle.model.proofs.Histories.{agrees, no-cycle}
 use Rattle.model.proofs.Checking.{rows-long, cert, cert-long, cert-bytes, win-accepted, reads}
 
@@ -40,68 +35,28 @@ data Change (s : Sheet) (o : Outcome) : Type 0 where
   drops : o .sheet .stored ≡ none → Change s o
   same : o .sheet ≡ s → Change s o
   solves : (f : Found) → Positions.solve (rules s) (s .capacity) (s .limit) ≡ found f → o .sheet ≡ with-stored s (some (record { found = f; current = 0 })) → Change s o
-  moves : (k : Stored) (x : ℕ) → s .stored ≡ some k → x < s .situations → o .sheet ≡ with-stored s (some (record { found = k .found; current = next-state k x })) → Change s o
+  moved : (k : Stored) (x : ℕ) → s .stored ≡ some k → x < s .situations → o .sheet ≡ with-stored s (some (in-next k x)) → Change s o
 
-module _ (s : Sheet) where
-  refuses : (o : Outcome) (n : Refusal) → o ≡ answers s (refused n) → Change s o
-  refuses o n e = same (ap (λ (o : Outcome). o .sheet) e)
-
-  add-change : (rule : ReadRule) → Change s (add-to s rule)
-  add-change blank = same refl
-  add-change (filled r) = go (cases-bool (eqb (r .rule .situations) (s .situations) && eqb (r .rule .commands) (s .commands))) (cases-bool (any (λ (a : Named). same-name (r .name) (a .name)) (s .added))) (cases-bool (ltb (length (s .added)) 4 && leb (rules s .states + r .rule .states) 16))
-    where
-      go : ((eqb (r .rule .situations) (s .situations) && eqb (r .rule .commands) (s .commands)) ≡ true) ⊎ ((eqb (r .rule .situations) (s .situations) && eqb (r .rule .commands) (s .commands)) ≡ false)
-          → (any (λ (a : Named). same-name (r .name) (a .name)) (s .added) ≡ true) ⊎ (any (λ (a : Named). same-name (r .name) (a .name)) (s .added) ≡ false)
-          → ((ltb (length (s .added)) 4 && leb (rules s .states + r .rule .states) 16) ≡ true) ⊎ ((ltb (length (s .added)) 4 && leb (rules s .states + r .rule .states) 16) ≡ false)
-          → Change s (add-to s (filled r))
-      go (inr n) b c = refuses (add-to s (filled r)) UnlikeRule (rw (n, add-to))
-      go (inl t) (inl y) c = refuses (add-to s (filled r)) NameTaken (rw (t, y, add-to))
-      go (inl t) (inr y) (inr n) = refuses (add-to s (filled r)) NoRoom (rw (t, y, n, add-to))
-      go (inl t) (inr y) (inl z) =
-          let e : add-to s (filled r) ≡ answers (with-added s (s .added ++ (r ∷ []))) done = rw (t, y, z, add-to) in
-          drops (ap (λ (o : Outcome). o .sheet .stored) e)
-
-  withdraw-change : (name : List ℕ) → Change s (withdraw-from s name)
-  withdraw-change name = go (cases-bool (any (λ (a : Named). same-name name (a .name)) (s .added)))
-    where
-      go : (any (λ (a : Named). same-name name (a .name)) (s .added) ≡ true) ⊎ (any (λ (a : Named). same-name name (a .name)) (s .added) ≡ false) → Change s (withdraw-from s name)
-      go (inl t) =
-          let e : withdraw-from s name ≡ answers (with-added s (kept-by (λ (a : Named). not (same-name name (a .name))) (s .added))) done = rw (t, withdraw-from) in
-          drops (ap (λ (o : Outcome). o .sheet .stored) e)
-      go (inr n) = refuses (withdraw-from s name) NoSuchName (rw (n, withdraw-from))
-
-  limit-change : (n : ℕ) → Change s (limit-on s n)
-  limit-change n = go (cases-bool (leb n 14))
-    where
-      go : (leb n 14 ≡ true) ⊎ (leb n 14 ≡ false) → Change s (limit-on s n)
-      go (inl t) = let e : limit-on s n ≡ answers (with-limit s n) done = rw (t, limit-on) in drops (ap (λ (o : Outcome). o .sheet .stored) e)
-      go (inr b) = refuses (limit-on s n) OverLimit (rw (b, limit-on))
-
-  solve-change : (x : Search) → Positions.solve (rules s) (s .capacity) (s .limit) ≡ x → Change s (solve-then s x)
-  solve-change (found f) e = solves f e refl
-  solve-change none-found e = drops refl
-  solve-change too-crowded e = drops refl
-
-  frame-change : (x : ℕ) → Change s (frame-on s x)
-  frame-change x = go (s .stored) refl
-    where
-      on : (k : Stored) → s .stored ≡ some k → (ltb x (s .situations) ≡ true) ⊎ (ltb x (s .situations) ≡ false) → Change s (frame-on s x)
-      on k e (inl t) = moves k x e (ltb-true x (s .situations) t) (ap (λ (o : Outcome). o .sheet) (frame-moves s x k e t))
-      on k e (inr n) = refuses (frame-on s x) NoSituation (frame-large s x k e n)
-
-      go : (o : Option Stored) → s .stored ≡ o → Change s (frame-on s x)
-      go none e = refuses (frame-on s x) NoController (frame-none s x e)
-      go (some k) e = on k e (cases-bool (ltb x (s .situations)))
-
-  change : (call : Call) → Change s (on-good-sheet s call)
-  change (add rule) = add-change rule
-  change (withdraw name) = withdraw-change name
-  change (limit n) = limit-change n
-  change solve =
-      subst (Change s) (sym (solve-is s (Positions.solve (rules s) (s .capacity) (s .limit)) refl)) (solve-change (Positions.solve (rules s) (s .capacity) (s .limit)) refl)
-  change (frame x) = frame-change x
-  change (write buffer) = let (a, e) = write-is s buffer in same (ap (λ (o : Outcome). o .sheet) e)
-  change (check file) = same refl
+does-change : (s : Sheet) {call : Call} {o : Outcome} → Does s call o → Change s o
+does-change s add-blank = same refl
+does-change s (add-unlike r n) = same refl
+does-change s (add-taken r l t) = same refl
+does-change s (add-full r l n m) = same refl
+does-change s (adds r l n room) = drops refl
+does-change s (withdraw-unknown name n) = same refl
+does-change s (withdraws name rest t o) = drops refl
+does-change s (limit-over n l) = same refl
+does-change s (limits n l) = drops refl
+does-change s (finds f e) = solves f e refl
+does-change s (finds-none e) = drops refl
+does-change s (crowds e) = drops refl
+does-change s (frame-none x e) = same refl
+does-change s (frame-large x k e l) = same refl
+does-change s (moves x k e l) = moved k x e l refl
+does-change s (write-none buffer e) = same refl
+does-change s (write-short buffer k e l) = same refl
+does-change s (writes buffer k e l) = same refl
+does-change s (checks bytes) = same refl
 
 -- what holds of a stored controller
 record Kept (s : Sheet) (k : Stored) : Type 0 where
@@ -123,22 +78,22 @@ keep s h all o (solves f e g) = subst AllKept (sym g) (λ k i. only k i)
     only k i =
         let j : record { found = f; current = 0 } ≡ k = cc in
         subst (Kept (with-stored s (some (record { found = f; current = 0 })))) j (record { best = b; inside = b .formed .some-state })
-keep s h all o (moves k x e hx g) = subst AllKept (sym g) (λ k′ i. only k′ i)
+keep s h all o (moved k x e hx g) = subst AllKept (sym g) (λ k′ i. only k′ i)
   where
     c : Kept s k
     c = all k e
 
-    only : (k′ : Stored) → _≡_ {A = Option Stored} (some (record { found = k .found; current = next-state k x })) (some k′) → Kept (with-stored s (some (record { found = k .found; current = next-state k x }))) k′
+    only : (k′ : Stored) → _≡_ {A = Option Stored} (some (in-next k x)) (some k′) → Kept (with-stored s (some (in-next k x))) k′
     only k′ i =
-        let j : record { found = k .found; current = next-state k x } ≡ k′ = cc in
-        subst (Kept (with-stored s (some (record { found = k .found; current = next-state k x })))) j
+        let j : in-next k x ≡ k′ = cc in
+        subst (Kept (with-stored s (some (in-next k x)))) j
         (record { best = c .best; inside = for-sheet s h (controller (k .found .rows)) (c .best .formed) .nexts (k .current) x (c .inside) hx })
 
 run-keeps : (calls : List Call) (s : Sheet) → Sound s → AllKept s → AllKept (run s calls)
 run-keeps [] s h all = all
 run-keeps (call ∷ calls) s h all =
     run-keeps calls (after s call) (after-sound s h call)
-    (subst (λ (o : Outcome). AllKept (o .sheet)) (sym (respond-is s call (h .looked))) (keep s h all (on-good-sheet s call) (change s call)))
+    (keep s h all (respond s call) (does-change s (does s (h .looked) call)))
 
 opened-keeps : (house : Automaton) (S C capacity : ℕ) → AllKept (opened house S C capacity)
 opened-keeps house S C capacity k e = let z : _≡_ {A = ℕ} 0 1 = cc in absurd (omega arith)
@@ -237,20 +192,18 @@ module _ (s : Sheet) (h : Sound s) (k : Stored) (c : Kept s k) where
       ([], cert B K (k .found .count) low wf C v, cert-long B K (k .found .count) low wf C v, cert-bytes B K (k .found .count) low wf C v, file-same)
 
 written : (s : Sheet) → Sound s → AllKept s → Written-Accepted s
-written s h all buffer held n e = go (s .stored) refl
+written s h all buffer held n e = go (does s (h .looked) (write buffer)) e
   where
-    on : respond s (write buffer) ≡ write-on s buffer
-    on = respond-is s (write buffer) (h .looked)
-
-    fit : (k : Stored) → s .stored ≡ some k → (leb (length (file-of s (k .found))) (length buffer) ≡ true) ⊎ (leb (length (file-of s (k .found))) (length buffer) ≡ false)
-        → (k : Stored) × (s .stored ≡ some k) × FileOf (rules s) (controller (k .found .rows)) (k .found .count) (take n held)
+    Accepted : Type 0
+    Accepted =
+        (k : Stored) × (s .stored ≡ some k) × FileOf (rules s) (controller (k .found .rows)) (k .found .count) (take n held)
         × (answer s (check (take n held)) ≡ accepted (k .found .count)) × (n ≤ length buffer) × (held ≡ take n held ++ drop n buffer)
-    fit k g (inr b) =
-        let a : answer s (write buffer) ≡ refused ShortBuffer = ap (λ (o : Outcome). o .answer) (on ∙ write-short s buffer k g b) in
-        let z : _≡_ {A = ℕ} 0 1 = cc in absurd (omega arith)
-    fit k g (inl t) =
+
+    go : {o : Outcome} → Does s (write buffer) o → o .answer ≡ wrote n held → Accepted
+    go (write-none b g) a = let z : _≡_ {A = ℕ} 0 1 = cc in absurd (omega arith)
+    go (write-short b k g l) a = let z : _≡_ {A = ℕ} 0 1 = cc in absurd (omega arith)
+    go (writes b k g l) a =
         let bytes : List ℕ = file-of s (k .found) in
-        let a : answer s (write buffer) ≡ wrote (length bytes) (bytes ++ drop (length bytes) buffer) = ap (λ (o : Outcome). o .answer) (on ∙ write-fits s buffer k g t) in
         let en : length bytes ≡ n = cc in
         let eh : bytes ++ drop (length bytes) buffer ≡ held = cc in
         let et : take n held ≡ bytes = ap (take n) (sym eh) ∙ take-at bytes (drop (length bytes) buffer) n en in (
@@ -258,17 +211,9 @@ written s h all buffer held n e = go (s .stored) refl
           g,
           subst (FileOf (rules s) (controller (k .found .rows)) (k .found .count)) (sym et) (file-is s h k (all k g)),
           subst (λ b. answer s (check b) ≡ accepted (k .found .count)) (sym et) (file-checks s h k (all k g)),
-          omega (arith, en, leb-true (length bytes) (length buffer) t),
+          omega (arith, en, l),
           sym eh ∙ subst₂ (λ b m. bytes ++ drop (length bytes) buffer ≡ b ++ drop m buffer) (sym et) en refl,
         )
-
-    go : (o : Option Stored) → s .stored ≡ o
-        → (k : Stored) × (s .stored ≡ some k) × FileOf (rules s) (controller (k .found .rows)) (k .found .count) (take n held)
-        × (answer s (check (take n held)) ≡ accepted (k .found .count)) × (n ≤ length buffer) × (held ≡ take n held ++ drop n buffer)
-    go none g =
-        let a : answer s (write buffer) ≡ refused NoController = ap (λ (o : Outcome). o .answer) (on ∙ write-none s buffer g) in
-        let z : _≡_ {A = ℕ} 0 1 = cc in absurd (omega arith)
-    go (some k) g = fit k g (cases-bool (leb (length (file-of s (k .found))) (length buffer)))
 
 pub written-stands : After-Calls Written-Accepted
 written-stands house S C capacity e calls =

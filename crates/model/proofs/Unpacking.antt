@@ -28,7 +28,8 @@ use Rattle.model.specs.History.{rows-of, FileOf, ForSheet, Accepted-Is-File, A
 use Rattle.model.proofs.Lists.{in-left, in-right, map-in, in-getD, decides-every, decides-same}
 use Rattle.model.proofs.Files.{window-at, check-parts, check-end}
 use Rattle.model.proofs.Checking.{rows-long, verdict-accepts, check-exact}
-use Rattle.model.proofs.Sheets.{Sound, opened-sound, run-sound, respond-is, for-sheet}
+use Rattle.model.proofs.Sheets.{Sound, opened-sound, run-sound, for-sheet}
+use Rattle.model.proofs.Calls.{respond-is}
 
 -- a list of bytes
 abbrev Bytes : List ℕ → Type 0

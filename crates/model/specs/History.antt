@@ -18,24 +18,6 @@ use Rattle.model.specs.declared.refusal.Refusal.{Refusal}
 use Rattle.model.specs.declared.refusal.Refusal.the-variants.{NoneFound, Crowded}
 use Rattle.model.specs.Sheet.{Sheet, same-name, look, opened, with-stored, rule-list, rules, Call, add, withdraw, limit, solve, frame, write, check, Answer, done, count, command, wrote, accepted, refused, Stored, answer, after, run, replies}
 
--- the rule of an add among the calls that was accepted, with no withdraw of its name accepted after it
-abbrev pub Standing : Sheet → List Call → Named → Type 0
-Standing s calls a =
-    (earlier : List Call) × (later : List Call)
-    × (calls ≡ earlier ++ (add (filled a) ∷ later))
-    × (answer (run s earlier) (add (filled a)) ≡ done)
-    × ((before behind : List Call) (name : List ℕ)
-    → later ≡ before ++ (withdraw name ∷ behind)
-    → answer (run s (earlier ++ (add (filled a) ∷ before))) (withdraw name) ≡ done
-    → same-name name (a .name) ≡ true → ⊥)
-
--- the added rules on a sheet are those of the adds accepted, each until a withdraw of its name is accepted
-abbrev pub Rules-Stand : Type 0
-Rules-Stand =
-    (house : Automaton) (S C capacity : ℕ) (calls : List Call) (a : Named)
-    → let s = opened house S C capacity in
-    In (run s calls .added) a ↔ Standing s calls a
-
 -- the states of a controller, written out
 abbrev pub rows-of : Automaton → Controller → List Row
 rows-of A K =
@@ -183,19 +165,6 @@ Accepted-Is-File s =
     → (c ≤ 14)
     × ((K : Controller) × ForSheet s K × (K .size ≤ 1024) × FileOf (rules s) K c bytes
     × CountAtMost (rule-list s) K c × NoRejectingCycle (rule-list s) K)
-
--- opened on what the look refuses, a sheet stays as it is, and every call gives that refusal
-abbrev pub Refused-Sheet : Type 0
-Refused-Sheet =
-    (house : Automaton) (S C capacity : ℕ) (r : Refusal) → look house S C capacity ≡ some r → (calls : List Call)
-    → let s = opened house S C capacity in
-    (run s calls ≡ s) × ((a : Answer) → In (replies s calls) a → a ≡ refused r)
-
--- a refusal alters nothing, except that solve discards the stored controller
-abbrev pub Refusals-Keep : Type 0
-Refusals-Keep =
-    (s : Sheet) (call : Call) (r : Refusal) → answer s call ≡ refused r
-    → (after s call ≡ s) ⊎ ((call ≡ solve) × (after s call ≡ with-stored s none))
 
 -- whatever the house rule within range, and whatever was called: check is exact, solve gives the least count, and frames stay
 -- within it

@@ -13,5 +13,6 @@ pub mod RuleLaws
 pub mod CountLaws
 pub mod PositionLaws
 pub mod SearchLaws
+pub mod SheetLaws
 pub mod History
 pub mod Worked

@@ -11,7 +11,7 @@ use Rattle.model.specs.Automaton.{Automaton, Row, no-row}
 use Rattle.model.specs.Rules.{together}
 use Rattle.model.specs.Lists.{any}
 use Rattle.model.specs.Text.{Named, ReadRule, blank, filled, between, numbers-in-range}
-use Rattle.model.specs.Positions.{Position, same, Found, found, none-found, too-crowded}
+use Rattle.model.specs.Positions.{Position, same, Found, Search, found, none-found, too-crowded}
 use Rattle.model.specs.Positions as Positions
 use Rattle.std.specs.declared.result.Result.{Result}
 use Rattle.std.specs.declared.result.Result.the-variants.{Ok, Err}
@@ -47,6 +47,9 @@ look house situations commands capacity =
             | true ↦ none
           ]
     ]
+
+abbrev pub looked : Sheet → Option Refusal
+looked s = look (s .house) (s .situations) (s .commands) (s .capacity)
 
 -- opened: no rule added, limit 14, no controller
 abbrev pub opened : Automaton → ℕ → ℕ → ℕ → Sheet
@@ -173,41 +176,51 @@ limit-on s n = elim (leb n 14) [ false ↦ answers s (refused OverLimit) | true 
 abbrev pub row-in : Found → ℕ → Row
 row-in f state = getD (f .rows) state no-row
 
--- solve always discards the stored controller first
+-- solve always discards the stored controller first; what it finds is stored, in state 0
+abbrev pub solve-with : Sheet → Search → Outcome
+solve-with s (found f) = answers (with-stored s (some (record { found = f; current = 0 }))) (count (f .count) (length (f .rows)) (row-in f 0 .command))
+solve-with s none-found = answers (with-stored s none) (refused NoneFound)
+solve-with s too-crowded = answers (with-stored s none) (refused Crowded)
+
 abbrev pub solve-on : Sheet → Outcome
-solve-on s =
-    elim (Positions.solve (rules s) (s .capacity) (s .limit)) [
-      | found f ↦ answers (with-stored s (some (record { found = f; current = 0 }))) (count (f .count) (length (f .rows)) (row-in f 0 .command))
-      | none-found ↦ answers (with-stored s none) (refused NoneFound)
-      | too-crowded ↦ answers (with-stored s none) (refused Crowded)
+solve-on s = solve-with s (Positions.solve (rules s) (s .capacity) (s .limit))
+
+-- the stored controller one frame on, and the command of its current state
+abbrev pub moved : Stored → ℕ → Stored
+moved k x = record { found = k .found; current = getD (row-in (k .found) (k .current) .nexts) x 0 }
+
+abbrev pub current-command : Stored → ℕ
+current-command k = row-in (k .found) (k .current) .command
+
+abbrev pub frame-with : Sheet → ℕ → Option Stored → Outcome
+frame-with s x none = answers s (refused NoController)
+frame-with s x (some k) =
+    elim (ltb x (s .situations)) [
+      | false ↦ answers s (refused NoSituation)
+      | true ↦ answers (with-stored s (some (moved k x))) (command (current-command (moved k x)))
     ]
 
 abbrev pub frame-on : Sheet → ℕ → Outcome
-frame-on s x =
-    elim (s .stored) [
-      | none ↦ answers s (refused NoController)
-      | some k ↦
-          let state = getD (row-in (k .found) (k .current) .nexts) x 0 in
-          elim (ltb x (s .situations)) [
-            | false ↦ answers s (refused NoSituation)
-            | true ↦ answers (with-stored s (some (record { found = k .found; current = state }))) (command (row-in (k .found) state .command))
-          ]
-    ]
+frame-on s x = frame-with s x (s .stored)
 
+-- the file of the stored controller: each state has its position's tallies, and c is solve's count
 abbrev pub file-of : Sheet → Found → List ℕ
 file-of s f = File.file (rules s) (f .rows) (tallies (f .positions)) (f .count)
 
-abbrev pub write-on : Sheet → List ℕ → Outcome
-write-on s buffer =
-    elim (s .stored) [
-      | none ↦ answers s (refused NoController)
-      | some k ↦
-          let bytes = file-of s (k .found) in
-          elim (leb (length bytes) (length buffer)) [
-            | false ↦ answers s (refused ShortBuffer)
-            | true ↦ answers s (wrote (length bytes) (bytes ++ drop (length bytes) buffer))
-          ]
+-- the buffer with these bytes at its start
+abbrev pub overwritten : List ℕ → List ℕ → List ℕ
+overwritten bytes buffer = bytes ++ drop (length bytes) buffer
+
+abbrev pub write-with : Sheet → List ℕ → Option Stored → Outcome
+write-with s buffer none = answers s (refused NoController)
+write-with s buffer (some k) =
+    elim (leb (length (file-of s (k .found))) (length buffer)) [
+      | false ↦ answers s (refused ShortBuffer)
+      | true ↦ answers s (wrote (length (file-of s (k .found))) (overwritten (file-of s (k .found)) buffer))
     ]
+
+abbrev pub write-on : Sheet → List ℕ → Outcome
+write-on s buffer = write-with s buffer (s .stored)
 
 -- check depends on the rules on the sheet alone, and leaves the sheet as it is
 abbrev pub verdict : Result ℕ Refusal → Answer
@@ -226,7 +239,7 @@ on-good-sheet s (check file) = answers s (verdict (File.check (rules s) file))
 -- opened on what the look refuses, a sheet gives that refusal from every call
 abbrev pub respond : Sheet → Call → Outcome
 respond s call =
-    elim (look (s .house) (s .situations) (s .commands) (s .capacity)) [ some r ↦ answers s (refused r) | none ↦ on-good-sheet s call ]
+    elim (looked s) [ some r ↦ answers s (refused r) | none ↦ on-good-sheet s call ]
 
 abbrev pub answer : Sheet → Call → Answer
 answer s call = respond s call .answer

@@ -6,7 +6,8 @@ ghost use Rattle.model.specs.RuleLaws.{Nearest-Exact, Free-Exact, Reply-Exact,
 ghost use Rattle.model.specs.CountLaws.{Certificates-Exact, Together-Agrees, Bounded-Without-Cycle, Count-Or-Cycle};
 ghost use Rattle.model.specs.PositionLaws.{Steps-Exact, Tallies-Exact};
 ghost use Rattle.model.specs.SearchLaws.{Both-Search-Exactly, Reach-Exact, Safe-Part-Largest};
-ghost use Rattle.model.specs.History.{After-Calls, Rules-Fit, Rules-Stand, Check-Exact, Solve-Least, Frames-Stay, History-Law, Stored-Best, Written-Accepted, Accepted-Is-File, Refusals-Keep, Refused-Sheet};
+ghost use Rattle.model.specs.SheetLaws.{Names-Exact, Look-Exact, Calls-Exact, Refusals-Keep, Refused-Sheet, Rules-Stand};
+ghost use Rattle.model.specs.History.{After-Calls, Rules-Fit, Check-Exact, Solve-Least, Frames-Stay, History-Law, Stored-Best, Written-Accepted, Accepted-Is-File};
 
 /// The sheets worked through answer as expected.
 pub fn worked_sheets_stand() -> u8
