@@ -1,5 +1,6 @@
 -- The proofs of reading, from single bytes to whole texts.
 pub mod Basics
+pub mod Correct
 pub mod Readers
 pub mod Words
 pub mod Digits

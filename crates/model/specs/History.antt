@@ -166,7 +166,27 @@ Accepted-Is-File s =
     × ((K : Controller) × ForSheet s K × (K .size ≤ 1024) × FileOf (rules s) K c bytes
     × CountAtMost (rule-list s) K c × NoRejectingCycle (rule-list s) K)
 
--- whatever the house rule within range, and whatever was called: check is exact, solve gives the least count, and frames stay
--- within it
+-- Along the frames accepted since the last of the calls that is a solve and gave a count, no path of a rule that was on the sheet then
+-- counts above that count, at the start or after any of the frames
+abbrev pub Frames-Since : Sheet → List Call → Type 0
+Frames-Since s calls =
+    (earlier later : List Call) → calls ≡ earlier ++ (solve ∷ later) → Frames-Within (run s earlier) later
+
+-- what holds of a sheet s that was newly opened, after a list of calls
+pub record Lawful (s : Sheet) (calls : List Call) : Type 0 where
+  -- check accepts some file of a controller with the number c exactly if its count is at most c
+  pub checks : Check-Exact (run s calls)
+  -- solve's count is its controller's own and the least of all; its none and crowded are true
+  pub solves : Solve-Least (run s calls)
+  -- no path along the accepted frames counts above the count given
+  pub frames : Frames-Since s calls
+  -- a stored controller is the best for the rules on the sheet
+  pub stores : Stored-Best (run s calls)
+  -- what write puts down is accepted, and what is accepted is a file of a controller whose count it bounds
+  pub writes : Written-Accepted (run s calls)
+  pub accepts : Accepted-Is-File (run s calls)
+
+-- the history law: for any house rule that the look does not refuse, and any list of calls, refused or not
 abbrev pub History-Law : Type 0
-History-Law = After-Calls (λ s. Check-Exact s × Solve-Least s × Frames-Stay s)
+History-Law =
+    (house : Automaton) (S C capacity : ℕ) → look house S C capacity ≡ none → (calls : List Call) → Lawful (opened house S C capacity) calls

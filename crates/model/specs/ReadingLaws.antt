@@ -13,8 +13,8 @@ use Rattle.model.specs.declared.fault.ReadFault.{ReadFault}
 use Rattle.model.specs.declared.fault.ReadFault.the-variants.{Numbers, Length, Line as OfLine, Unreached}
 use Rattle.model.specs.Lists.{every, joined, In, Distinct}
 use Rattle.model.specs.Automaton.{Automaton, Starts, Follows}
-use Rattle.model.specs.Text.{Choice, one, each, Arrows, Line, n-line, correct, line-bytes, digit-byte, name-byte, one-digit, good-choice, digit-word, choice-word, TextRule, lines, text, meaning, reached, all-reached, Number, numbers}
-use Rattle.model.specs.Reading.{Reader, part, wrong, _>>=_, byte, digit, choice, digits, name-rest, words, letter, first-line, reads, faulty, read}
+use Rattle.model.specs.Text.{Choice, one, each, Arrows, Line, n-line, s-line, r-line, t-line, correct, line-bytes, digit-byte, name-byte, one-digit, good-choice, digit-word, choice-word, TextRule, lines, text, meaning, reached, all-reached, Number, numbers}
+use Rattle.model.specs.Reading.{Reader, part, wrong, _>>=_, byte, digit, choice, digits, name-rest, words, letter, first-line, Reading, reads, faulty, read}
 
 -- a number lies in its range
 abbrev pub Inside : Number → Type 0
@@ -28,6 +28,16 @@ NameByte b = ((48 ≤ b) × (b ≤ 57)) ⊎ (((65 ≤ b) × (b ≤ 90)) ⊎ ((97
 abbrev pub Below : ℕ → Choice → Type 0
 Below n (one d) = d < n
 Below n each = Unit {0}
+
+-- the words of a line are words: a name has 1 to 8 letters or digits, and every number is one digit
+abbrev pub Correct : Line → Type 0
+Correct (n-line name) = (1 ≤ length name) × (length name ≤ 8) × ((b : ℕ) → In name b → NameByte b)
+Correct (s-line n q) = (n < 10) × (q < 10)
+Correct (r-line qs) = (q : ℕ) → In qs q → q < 10
+Correct (t-line a) = (a .from < 10) × Below 10 (a .command) × Below 10 (a .situation) × ((p : ℕ) → In (a .to) p → p < 10)
+
+abbrev pub Correct-Exact : Type 0
+Correct-Exact = (l : Line) → (correct l ≡ true) ↔ Correct l
 
 -- all numbers of a rule in range: 1 to 8 states; states below their number, commands below C, situations below S
 pub record Ranged (S C : ℕ) (r : TextRule) : Type 0 where
@@ -115,6 +125,15 @@ Says S C bytes (Unreached line) =
 -- a text gives a fault exactly if the fault says so
 abbrev pub Faults-Exact : Type 0
 Faults-Exact = (S C : ℕ) (bytes : List ℕ) (f : ReadFault) → (read S C bytes ≡ faulty f) ↔ Says S C bytes f
+
+-- what a reading says of the text: that it states this rule, or has this fault
+abbrev pub ReadingSays : ℕ → ℕ → List ℕ → Reading → Type 0
+ReadingSays S C bytes (reads r) = NumbersGood S C × LengthGood bytes × (bytes ≡ text r) × Ranged S C r × AllReached (meaning S C r)
+ReadingSays S C bytes (faulty f) = Says S C bytes f
+
+-- of every text exactly one of these is the case
+abbrev pub Reading-Decided : Type 0
+Reading-Decided = (S C : ℕ) (bytes : List ℕ) → (v : Reading) × ReadingSays S C bytes v × ((w : Reading) → ReadingSays S C bytes w → w ≡ v)
 
 -- THE PARTS OF READING
 

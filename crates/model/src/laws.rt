@@ -1,7 +1,7 @@
 //! The laws of the definitions in specs/: each stands on the contract of a function that does nothing else.
 
 ghost use Rattle.model.specs.Worked.{Worked-Sheets-Hold};
-ghost use Rattle.model.specs.ReadingLaws.{Range-Exact, Lines-Unique, Reading-Exact, Faults-Exact, Words-Exact, Line-Exact, Numbers-Stand, Reached-Exact, Meaning-Exact};
+ghost use Rattle.model.specs.ReadingLaws.{Correct-Exact, Reading-Decided, Range-Exact, Lines-Unique, Reading-Exact, Faults-Exact, Words-Exact, Line-Exact, Numbers-Stand, Reached-Exact, Meaning-Exact};
 ghost use Rattle.model.specs.RuleLaws.{Nearest-Exact, Free-Exact, Reply-Exact, Pair-Exact, Together-Counts-On};
 ghost use Rattle.model.specs.CountLaws.{Certificates-Exact, Together-Agrees, Bounded-Without-Cycle, Count-Or-Cycle};
 ghost use Rattle.model.specs.PositionLaws.{Steps-Exact, Tallies-Exact};
@@ -237,6 +237,41 @@ pub fn steps_stand() -> u8
 /// A tally is the count of a path, and no path counts more.
 pub fn tallies_stand() -> u8
     ensures { λ _. ⌜ Tallies-Exact ⌝ }
+{
+    0
+}
+
+/// Letter case in names is ignored, and nothing else.
+pub fn names_stand() -> u8
+    ensures { λ _. ⌜ Names-Exact ⌝ }
+{
+    0
+}
+
+/// The look refuses what is out of range, and a house rule that does not fit.
+pub fn look_stands() -> u8
+    ensures { λ _. ⌜ Look-Exact ⌝ }
+{
+    0
+}
+
+/// Each call has exactly the outcome that its sentence gives.
+pub fn calls_stand() -> u8
+    ensures { λ _. ⌜ Calls-Exact ⌝ }
+{
+    0
+}
+
+/// The words of a line are words exactly if their sentence says so.
+pub fn correct_lines_stand() -> u8
+    ensures { λ _. ⌜ Correct-Exact ⌝ }
+{
+    0
+}
+
+/// A text states one rule, or has one fault.
+pub fn reading_is_decided() -> u8
+    ensures { λ _. ⌜ Reading-Decided ⌝ }
 {
     0
 }

@@ -15,7 +15,7 @@ use Rattle.model.specs.declared.fault.LineFault.the-variants.{Word, Order, Ran
 use Rattle.model.specs.declared.fault.ReadFault.{ReadFault}
 use Rattle.model.specs.declared.fault.ReadFault.the-variants.{Numbers, Length, Line as OfLine, Unreached}
 use Rattle.model.specs.Reading.{bad-word, bad-order, bad-range, Part, part, wrong, first-line, SoFar, nothing, named, sized, full, onward, states-so-far, Reading, reads, faulty, at-end, read-lines, read}
-use Rattle.model.specs.ReadingLaws.{Inside, Ranged, AllReached, NumbersGood, LengthGood, StopsAt, Behind, NextLine, InOrder, FirstOutside, Says, Reading-Exact, Faults-Exact}
+use Rattle.model.specs.ReadingLaws.{Inside, Ranged, AllReached, NumbersGood, LengthGood, StopsAt, Behind, NextLine, InOrder, FirstOutside, Says, ReadingSays, Reading-Exact, Faults-Exact, Reading-Decided}
 use Rattle.model.proofs.Reading.Basics.{by-test, true-false}
 use Rattle.model.proofs.Reading.Ranges.{none-some, some-same, AllInside, outside, first-none, none-first, Outside, first-some, some-first}
 use Rattle.model.proofs.Lists.{in-left, joined-append}
@@ -81,10 +81,8 @@ module _ (S C : ℕ) where
   -- WHAT IT ANSWERS IS SO
 
   module _ (bytes : List ℕ) where
-    -- what a reading says of the text
     abbrev Verdict : Reading → Type 0
-    Verdict (reads r) = NumbersGood S C × LengthGood bytes × (bytes ≡ text r) × Ranged S C r × AllReached (meaning S C r)
-    Verdict (faulty f) = Says S C bytes f
+    Verdict v = ReadingSays S C bytes v
 
     -- how far the reader has come: the lines before, and the bytes that are left
     record Place (line : ℕ) (f : SoFar) (rest : List ℕ) : Type 0 where
@@ -403,3 +401,10 @@ reading-exact S C bytes r = ((λ e. subst (λ z. Verdict S C bytes z) e (verdict
 
 pub faults-exact : Faults-Exact
 faults-exact S C bytes f = ((λ e. subst (λ z. Verdict S C bytes z) e (verdict S C bytes)), (λ h. said S C bytes f h))
+
+pub reading-decided : Reading-Decided
+reading-decided S C bytes = (read S C bytes, verdict S C bytes, only)
+  where
+    only : (w : Reading) → ReadingSays S C bytes w → w ≡ read S C bytes
+    only (reads r) h = sym (reading-exact S C bytes r .1 h)
+    only (faulty f) h = sym (faults-exact S C bytes f .1 h)
