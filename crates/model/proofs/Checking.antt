@@ -49,12 +49,12 @@ none-first f [] h = refl
 none-first f (y ∷ L) h = let k : first f (y ∷ L) ≡ first f L = rw (h y (inl refl), first) in k ∙ none-first f L (λ x i. h x (inr i))
 
 module _ (A : Automaton) where
-  in-bytes : (m s q : ℕ) → s < m → q < A .states → In (byte-places A m) (place s 0 q 0)
+  pub in-bytes : (m s q : ℕ) → s < m → q < A .states → In (byte-places A m) (place s 0 q 0)
   in-bytes m s q hs hq =
       in-joined (λ s. map (λ q. place s 0 q 0) (counting 0 (A .states))) (counting 0 m) s (place s 0 q 0) (in-counting 0 m s (omega arith) (omega arith))
       (in-map (λ q. place s 0 q 0) (counting 0 (A .states)) q (in-counting 0 (A .states) q (omega arith) (omega arith)))
 
-  bytes-in : (m : ℕ) (at : Place) → In (byte-places A m) at → (s : ℕ) × (q : ℕ) × (s < m) × (q < A .states) × (at ≡ place s 0 q 0)
+  pub bytes-in : (m : ℕ) (at : Place) → In (byte-places A m) at → (s : ℕ) × (q : ℕ) × (s < m) × (q < A .states) × (at ≡ place s 0 q 0)
   bytes-in m at i =
       let (s, j, k) = joined-in (λ s. map (λ q. place s 0 q 0) (counting 0 (A .states))) (counting 0 m) at i in
       let (q, l, e) = map-in (λ q. place s 0 q 0) (counting 0 (A .states)) at k in
@@ -62,16 +62,16 @@ module _ (A : Automaton) where
       let hq : (0 ≤ q) × (q < 0 + A .states) = counting-in 0 (A .states) q l in
       (s, q, omega (arith, hs .1), omega (arith, hq .1), e)
 
-  in-starts : (q : ℕ) → q < A .states → In (start-places A) (place 0 0 q 0)
+  pub in-starts : (q : ℕ) → q < A .states → In (start-places A) (place 0 0 q 0)
   in-starts q hq = in-map (λ q. place 0 0 q 0) (counting 0 (A .states)) q (in-counting 0 (A .states) q (omega arith) (omega arith))
 
-  starts-in : (at : Place) → In (start-places A) at → (q : ℕ) × (q < A .states) × (at ≡ place 0 0 q 0)
+  pub starts-in : (at : Place) → In (start-places A) at → (q : ℕ) × (q < A .states) × (at ≡ place 0 0 q 0)
   starts-in at i =
       let (q, l, e) = map-in (λ q. place 0 0 q 0) (counting 0 (A .states)) at i in
       let hq : (0 ≤ q) × (q < 0 + A .states) = counting-in 0 (A .states) q l in
       (q, omega (arith, hq .1), e)
 
-  in-arrows : (m s x q p : ℕ) → s < m → x < A .situations → q < A .states → p < A .states → In (arrow-places A m) (place s x q p)
+  pub in-arrows : (m s x q p : ℕ) → s < m → x < A .situations → q < A .states → p < A .states → In (arrow-places A m) (place s x q p)
   in-arrows m s x q p hs hx hq hp =
       in-joined (λ s. joined (λ x. joined (λ q. map (λ p. place s x q p) (counting 0 (A .states))) (counting 0 (A .states))) (counting 0 (A .situations))) (counting 0 m) s (place s x q p)
       (in-counting 0 m s (omega arith) (omega arith))
@@ -81,7 +81,7 @@ module _ (A : Automaton) where
       (in-counting 0 (A .states) q (omega arith) (omega arith))
       (in-map (λ p. place s x q p) (counting 0 (A .states)) p (in-counting 0 (A .states) p (omega arith) (omega arith)))))
 
-  arrows-in : (m : ℕ) (at : Place) → In (arrow-places A m) at
+  pub arrows-in : (m : ℕ) (at : Place) → In (arrow-places A m) at
       → (s : ℕ) × (x : ℕ) × (q : ℕ) × (p : ℕ) × (s < m) × (x < A .situations) × (q < A .states) × (p < A .states) × (at ≡ place s x q p)
   arrows-in m at i =
       let (s, is, js) = joined-in (λ s. joined (λ x. joined (λ q. map (λ p. place s x q p) (counting 0 (A .states))) (counting 0 (A .states))) (counting 0 (A .situations))) (counting 0 m) at i in

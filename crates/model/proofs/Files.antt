@@ -51,8 +51,8 @@ numbers-back (n ∷ L) h = let e : number-of (bytes-of 2 n) ≡ n = two-back n (
 abbrev pub Plain : ℕ → Row → Type 0
 Plain S r = (length (r .nexts) ≡ S) × ((n : ℕ) → In (r .nexts) n → n < 65536)
 
-record-length : (S : ℕ) (r : Row) → Plain S r → length (record-bytes r) ≡ 1 + 2 * S
-record-length S r (l, h) = let e : length (joined (bytes-of 2) (r .nexts)) ≡ length (r .nexts) * 2 = joined-length (bytes-of 2) 2 (r .nexts) (λ n i. refl) in omega arith
+pub record-length : (S : ℕ) (r : Row) → length (r .nexts) ≡ S → length (record-bytes r) ≡ 1 + 2 * S
+record-length S r l = let e : length (joined (bytes-of 2) (r .nexts)) ≡ length (r .nexts) * 2 = joined-length (bytes-of 2) 2 (r .nexts) (λ n i. refl) in omega arith
 
 row-back : (S : ℕ) (r : Row) → Plain S r → row-of S (record-bytes r) ≡ r
 row-back S r (l, h) =
@@ -136,7 +136,7 @@ module _ (A : Automaton) (rows : List Row) (cert before : List ℕ) (c : ℕ) (h
 
   records-long : length R ≡ records-size (A .situations) m
   unfolding R m
-  records-long = joined-length record-bytes (1 + 2 * A .situations) rows (λ r i. record-length (A .situations) r (plain r i))
+  records-long = joined-length record-bytes (1 + 2 * A .situations) rows (λ r i. record-length (A .situations) r (plain r i .0))
 
   sizes : (records-size (A .situations) m ≤ 1024 * 17) × (certificate-size (A .states) m ≤ 1024 * 16)
   unfolding m
@@ -171,7 +171,7 @@ module _ (A : Automaton) (rows : List Row) (cert before : List ℕ) (c : ℕ) (h
   rows-are : map (row-of (A .situations)) (pieces m (1 + 2 * A .situations) (R ++ (cert ++ T))) ≡ rows
   unfolding R T m
   rows-are =
-      ap (map (row-of (A .situations))) (pieces-joined record-bytes (1 + 2 * A .situations) rows (cert ++ T) (λ r i. record-length (A .situations) r (plain r i)))
+      ap (map (row-of (A .situations))) (pieces-joined record-bytes (1 + 2 * A .situations) rows (cert ++ T) (λ r i. record-length (A .situations) r (plain r i .0)))
       ∙ rows-back (A .situations) rows plain
 
   abbrev pub window : Window

@@ -27,3 +27,4 @@ pub mod Reading
 pub mod Cycles
 pub mod Counts
 pub mod Turns
+pub mod FileLaws

@@ -53,7 +53,7 @@ bytes-back (suc n) (b ∷ l) e h =
     ∙ ap {B = List ℕ} (λ x. b ∷ bytes-of n x) d
     ∙ ap {B = List ℕ} (λ x. b ∷ x) (bytes-back n l (omega arith) (λ c i. h c (inr i)))
 
-pieces-long : (m size : ℕ) (l : List ℕ) → length (pieces m size l) ≡ m
+pub pieces-long : (m size : ℕ) (l : List ℕ) → length (pieces m size l) ≡ m
 pieces-long zero size l = refl
 pieces-long (suc m) size l = ap suc (pieces-long m size (drop size l))
 

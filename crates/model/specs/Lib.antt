@@ -7,6 +7,7 @@ pub mod Reading
 pub mod Positions
 pub mod Refusals
 pub mod File
+pub mod FileLaws
 pub mod Sheet
 pub mod ReadingLaws
 pub mod RuleLaws

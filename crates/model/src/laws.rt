@@ -6,6 +6,7 @@ ghost use Rattle.model.specs.RuleLaws.{Nearest-Exact, Free-Exact, Reply-Exact,
 ghost use Rattle.model.specs.CountLaws.{Certificates-Exact, Together-Agrees, Bounded-Without-Cycle, Count-Or-Cycle};
 ghost use Rattle.model.specs.PositionLaws.{Steps-Exact, Tallies-Exact};
 ghost use Rattle.model.specs.SearchLaws.{Both-Search-Exactly, Reach-Exact, Safe-Part-Largest};
+ghost use Rattle.model.specs.FileLaws.{File-Laid-Out, Check-Says};
 ghost use Rattle.model.specs.SheetLaws.{Names-Exact, Look-Exact, Calls-Exact, Refusals-Keep, Refused-Sheet, Rules-Stand};
 ghost use Rattle.model.specs.History.{After-Calls, Rules-Fit, Check-Exact, Solve-Least, Frames-Stay, History-Law, Stored-Best, Written-Accepted, Accepted-Is-File};
 
@@ -272,6 +273,20 @@ pub fn correct_lines_stand() -> u8
 /// A text states one rule, or has one fault.
 pub fn reading_is_decided() -> u8
     ensures { λ _. ⌜ Reading-Decided ⌝ }
+{
+    0
+}
+
+/// A file has each number at its offset.
+pub fn file_laid_out() -> u8
+    ensures { λ _. ⌜ File-Laid-Out ⌝ }
+{
+    0
+}
+
+/// Check gives a verdict exactly if the verdict says so of the bytes.
+pub fn check_says() -> u8
+    ensures { λ _. ⌜ Check-Says ⌝ }
 {
     0
 }
