@@ -161,6 +161,7 @@ module _ (house : Automaton) (S C capacity : ℕ) where
     good : look house S C capacity ≡ none → InRange S C capacity → FitsSheet house S C → Looked
 
   looks : Looked
+  unfolding look
   looks = go (cases-bool First) (cases-bool Second)
     where
       go : (First ≡ true) ⊎ (First ≡ false) → (Second ≡ true) ⊎ (Second ≡ false) → Looked
@@ -336,9 +337,11 @@ module _ (s : Sheet) where
   does-only (checks bytes) = refl
 
   pub respond-is : (call : Call) → looked s ≡ none → respond s call ≡ on-good-sheet s call
+  unfolding respond
   respond-is call e = rw (e, respond)
 
   pub refused-is : (call : Call) (r : Refusal) → looked s ≡ some r → respond s call ≡ answers s (refused r)
+  unfolding respond
   refused-is call r e = rw (e, respond)
 
   pub does : looked s ≡ none → (call : Call) → Does s call (respond s call)

@@ -101,6 +101,7 @@ module _ (A : Automaton) where
     -- the three looks of first-broken
     looks : first-broken A w ≡ none
         → (first (bad-byte w) (byte-places A (length (w .rows))) ≡ none) × (first (bad-start A w) (start-places A) ≡ none) × (first (bad-arrow A w) (arrow-places A (length (w .rows))) ≡ none)
+    unfolding first-broken
     looks e = go (first (bad-byte w) (byte-places A (length (w .rows)))) refl (first (bad-start A w) (start-places A)) refl
       where
         go : (o : Option Place) → first (bad-byte w) (byte-places A (length (w .rows))) ≡ o → (u : Option Place) → first (bad-start A w) (start-places A) ≡ u
@@ -128,6 +129,7 @@ module _ (A : Automaton) where
         started q t f = let k : (A .start q && ltb (mark-in w 0 q) (1 + weight A q)) ≡ ltb (mark-in w 0 q) (1 + weight A q) = rw t in sym k ∙ f
 
     valid-none : Valid A Ctl (w .count) (mark-in w) → first-broken A w ≡ none
+    unfolding first-broken
     valid-none v =
         let a : first (bad-byte w) (byte-places A (length (w .rows))) ≡ none = none-first (bad-byte w) (byte-places A (length (w .rows))) (λ at i. no-byte at (bytes-in (length (w .rows)) at i)) in
         let b : first (bad-start A w) (start-places A) ≡ none = none-first (bad-start A w) (start-places A) (λ at i. no-start at (starts-in at i)) in
@@ -156,6 +158,7 @@ module _ (A : Automaton) where
             go (inr z) t = rw (le-ltb 0 (mark-in w s q) z, bad-arrow)
 
     pub accepted-valid : (c : ℕ) → look-through A w ≡ accepts c → Valid A Ctl (w .count) (mark-in w)
+    unfolding look-through
     accepted-valid c e = go (cases-bool (every (good-row A (length (w .rows))) (w .rows))) (first-broken A w) refl
       where
         go : (every (good-row A (length (w .rows))) (w .rows) ≡ true) ⊎ (every (good-row A (length (w .rows))) (w .rows) ≡ false) → (o : Option Place) → first-broken A w ≡ o → Valid A Ctl (w .count) (mark-in w)
@@ -164,6 +167,7 @@ module _ (A : Automaton) where
         go (inl t) none k = none-valid k
 
     pub valid-accepted : every (good-row A (length (w .rows))) (w .rows) ≡ true → Valid A Ctl (w .count) (mark-in w) → look-through A w ≡ accepts (w .count)
+    unfolding look-through
     valid-accepted t v = rw (t, valid-none v, look-through)
 
 -- the rows of a controller

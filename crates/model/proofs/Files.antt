@@ -52,9 +52,11 @@ abbrev pub Plain : ℕ → Row → Type 0
 Plain S r = (length (r .nexts) ≡ S) × ((n : ℕ) → In (r .nexts) n → n < 65536)
 
 pub record-length : (S : ℕ) (r : Row) → length (r .nexts) ≡ S → length (record-bytes r) ≡ 1 + 2 * S
+unfolding record-bytes
 record-length S r l = let e : length (joined (bytes-of 2) (r .nexts)) ≡ length (r .nexts) * 2 = joined-length (bytes-of 2) 2 (r .nexts) (λ n i. refl) in omega arith
 
 row-back : (S : ℕ) (r : Row) → Plain S r → row-of S (record-bytes r) ≡ r
+unfolding record-bytes
 row-back S r (l, h) =
     let e : pieces (length (r .nexts)) 2 (joined (bytes-of 2) (r .nexts) ++ []) ≡ map (bytes-of 2) (r .nexts) = pieces-joined (bytes-of 2) 2 (r .nexts) [] (λ n i. refl) in
     let f : pieces S 2 (joined (bytes-of 2) (r .nexts)) ≡ map (bytes-of 2) (r .nexts) = subst₂ (λ n l. pieces n 2 l ≡ map (bytes-of 2) (r .nexts)) l (append-nil (joined (bytes-of 2) (r .nexts))) e in
@@ -93,6 +95,7 @@ check-end A bytes at end =
     check-parts A bytes at (take 4 end) (drop 18 end) (number-of (piece 12 2 end)) (getD end 17 0) (getD end 14 0) (getD end 15 0) (getD end 16 0) (number-of (piece 4 4 end)) (number-of (piece 8 4 end))
 
 check-is : (A : Automaton) (bytes : List ℕ) → check A bytes ≡ check-end A bytes (length bytes - 20) (drop (length bytes - 20) bytes)
+unfolding check
 check-is A bytes = refl
 
 parts-pass : (A : Automaton) (bytes : List ℕ) (at m c : ℕ) → 20 ≤ length bytes → 1 ≤ m → m ≤ 1024 → c ≤ 14 → records-size (A .situations) m + certificate-size (A .states) m ≤ at
@@ -145,24 +148,24 @@ module _ (A : Automaton) (rows : List Row) (cert before : List ℕ) (c : ℕ) (h
       (mul-le-mul {n₁ = length rows} {m₁ = 1 + 2 * A .situations} {n₂ = 1024} {m₂ = 17} few a, mul-le-mul {n₁ = length rows} {m₁ = A .states} {n₂ = 1024} {m₂ = 16} few hn)
 
   whole-long : length bytes ≡ length before + (length R + (length cert + 20))
-  unfolding bytes R
+  unfolding bytes R file trailer
   whole-long = length-append before (R ++ (cert ++ trailer A (length rows) c)) ∙ ap (λ n. length before + n) (length-append R (cert ++ trailer A (length rows) c) ∙ ap (λ n. length R + n) (length-append cert (trailer A (length rows) c)))
 
   at-is : length bytes - 20 ≡ length before + (length R + length cert)
   at-is = omega (arith, whole-long)
 
   end-is : drop (length bytes - 20) bytes ≡ T
-  unfolding bytes R T
+  unfolding bytes R T file
   end-is =
       let e : bytes ≡ (before ++ (R ++ cert)) ++ T = ap (λ l. before ++ l) (sym (append-assoc R cert T)) ∙ sym (append-assoc before (R ++ cert) T) in
       ap (drop (length bytes - 20)) e ∙ drop-at (before ++ (R ++ cert)) T (length bytes - 20) (length-append before (R ++ cert) ∙ ap (λ n. length before + n) (length-append R cert) ∙ sym at-is)
 
   records-at : drop (length bytes - 20 - (records-size (A .situations) m + certificate-size (A .states) m)) bytes ≡ R ++ (cert ++ T)
-  unfolding bytes R T m
+  unfolding bytes R T m file
   records-at = drop-at before (R ++ (cert ++ T)) (length bytes - 20 - (records-size (A .situations) m + certificate-size (A .states) m)) (omega (arith, at-is, records-long, hcert))
 
   pub cert-at : drop (length (before ++ file A rows cert c) - 20 - certificate-size (A .states) (length rows)) (before ++ file A rows cert c) ≡ cert ++ trailer A (length rows) c
-  unfolding bytes R T m
+  unfolding bytes R T m file
   cert-at =
       let e : bytes ≡ (before ++ R) ++ (cert ++ T) = sym (append-assoc before R (cert ++ T)) in
       ap (drop (length bytes - 20 - certificate-size (A .states) m)) e
@@ -185,7 +188,7 @@ module _ (A : Automaton) (rows : List Row) (cert before : List ℕ) (c : ℕ) (h
       ∙ ap (λ l. record { rows = rows; marks = map (map byte-mark) (pieces m (A .states) l); count = c }) cert-at
 
   end-reads : check-end A bytes (length bytes - 20) T ≡ look-through A (window-at A bytes (length bytes - 20) m c)
-  unfolding T m
+  unfolding T m trailer
   end-reads =
       let D : ℕ = records-size (A .situations) m + certificate-size (A .states) m in
       let at : ℕ = length bytes - 20 in
@@ -195,6 +198,6 @@ module _ (A : Automaton) (rows : List Row) (cert before : List ℕ) (c : ℕ) (h
       ∙ parts-pass A bytes at m c (omega (arith, whole-long)) one few low (omega (arith, at-is, records-long, hcert))
 
   pub file-reads : check A (before ++ file A rows cert c) ≡ look-through A window
-  unfolding bytes
+  unfolding bytes check
   file-reads =
       ap (check-end A bytes (length bytes - 20)) end-is ∙ end-reads ∙ ap (look-through A) window-is

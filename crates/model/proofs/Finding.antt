@@ -51,7 +51,7 @@ module _ (A : Automaton) (c : ℕ) (L : List Position) (lists : (P : Position) �
   chosen P = command-at A R P
 
   chosen-good : (P : Position) → In R P → (chosen P < A .commands) × ((x : ℕ) → x < A .situations → In R (step A (chosen P) x P))
-  unfolding R chosen
+  unfolding R chosen command-at found-in row-at steps
   chosen-good P i =
       let (u, h, k) = part-kept A L P i in
       let (a, b) = lowest-passes (holds A R P) (counting 0 (A .commands)) u (in-counting 0 (A .commands) u (omega arith) (omega arith)) (decides-holds A R P u .1 k) in
@@ -62,7 +62,7 @@ module _ (A : Automaton) (c : ℕ) (L : List Position) (lists : (P : Position) �
   nexts P = steps A P (chosen P)
 
   leads-safe : {P : Position} → Leads nexts (start-position A) P → In R P
-  unfolding R nexts
+  unfolding R nexts found-in row-at steps
   leads-safe here = starts
   leads-safe (further {y = P} Q l i) =
       let (x, h, e) = steps-in A P Q (chosen P) i in
@@ -75,7 +75,7 @@ module _ (A : Automaton) (c : ℕ) (L : List Position) (lists : (P : Position) �
   Met l = Listed same decides-same nexts (length R) (start-position A) l
 
   met-listed : Met met
-  unfolding met nexts chosen Met
+  unfolding met nexts chosen Met states-met found-in row-at steps
   met-listed = go (reached-from same nexts (length R) (start-position A)) refl (searched same decides-same nexts (length R) (start-position A))
     where
       go : (o : Option (List Position)) → reached-from same nexts (length R) (start-position A) ≡ o → Result same decides-same nexts (length R) (start-position A) o → Met (states-met A R)
@@ -93,18 +93,18 @@ module _ (A : Automaton) (c : ℕ) (L : List Position) (lists : (P : Position) �
     at-met = in-getD met s [] hs
 
     at-safe : In R at
-    unfolding Met
+    unfolding Met found-in row-at steps
     at-safe = leads-safe (met-listed .has at at-met)
 
     row-is : getD (map (row-at A R met) met) s no-row ≡ row-at A R met at
     row-is = getD-map (row-at A R met) met s [] no-row hs
 
     command-is : K .command s ≡ chosen at
-    unfolding K met chosen
+    unfolding K met chosen found-in states-met command-at row-at steps
     command-is = ap (λ (r : Row). r .command) row-is
 
     next-is : (x : ℕ) → x < A .situations → K .next s x ≡ place same met (step A (chosen at) x at)
-    unfolding K met chosen
+    unfolding K met chosen found-in row-at steps
     next-is x hx =
         ap (λ (r : Row). getD (r .nexts) x 0) row-is
         ∙ getD-map (place same met) (steps A at (chosen at)) x [] 0 (omega (arith, length-map-counting (λ x. step A (chosen at) x at) 0 (A .situations)))
@@ -112,14 +112,14 @@ module _ (A : Automaton) (c : ℕ) (L : List Position) (lists : (P : Position) �
 
     -- the next state has the next position
     next-at : (x : ℕ) → x < A .situations → (K .next s x < length met) × (getD met (K .next s x) [] ≡ step A (K .command s) x at)
-    unfolding Met nexts
+    unfolding Met nexts found-in row-at steps
     next-at x hx =
         let i : In met (step A (chosen at) x at) = met-listed .all (step A (chosen at) x at) (further {y = at} (step A (chosen at) x at) (met-listed .has at at-met) (in-steps A at (chosen at) x hx)) in
         let (a, b) = place-in same decides-same met (step A (chosen at) x at) [] i in
         (subst (λ n. n < length met) (sym (next-is x hx)) a, subst (λ n. getD met n [] ≡ step A (K .command s) x at) (sym (next-is x hx)) (b ∙ ap (λ u. step A u x at) (sym command-is)))
 
   first-at : (0 < length met) × (getD met 0 [] ≡ start-position A)
-  unfolding Met
+  unfolding Met found-in row-at steps
   first-at = front met met-listed
     where
       front : (M : List Position) → Met M → (0 < length M) × (getD M 0 [] ≡ start-position A)
@@ -131,11 +131,11 @@ module _ (A : Automaton) (c : ℕ) (L : List Position) (lists : (P : Position) �
           go (inr (earlier, z, later, left, right, e, f, g, h)) = absurd (omega (arith, ap length e, length-append earlier (z ∷ later)))
 
   size-is : K .size ≡ length met
-  unfolding K met
+  unfolding K met found-in states-met row-at steps
   size-is = length-map met (row-at A R met)
 
   pub found-formed : WellFormed A (controller (found-in A c (safe-part A L) .rows))
-  unfolding R K
+  unfolding R K found-in row-at steps
   found-formed =
       record {
         some-state = omega (arith, size-is, first-at .0);
@@ -162,13 +162,13 @@ module _ (A : Automaton) (c : ℕ) (L : List Position) (lists : (P : Position) �
       }
 
   pub found-within : AtMost A (controller (found-in A c (safe-part A L) .rows)) c
-  unfolding R K
+  unfolding R K found-in row-at steps
   found-within s q t w =
       let h : Held s q t = held w in
       omega (arith, h .tally, part-fits A c L lists (getD met s []) (at-safe s (h .state)) q (h .rule))
 
   pub found-valid : Valid A (controller (found-in A c (safe-part A L) .rows)) c (λ s q. mark (getD (found-in A c (safe-part A L) .positions) s []) q)
-  unfolding R K met
+  unfolding R K met found-in row-at steps
   found-valid =
       record {
         within = λ s q h hq. (let hs : s < length met = omega (arith, size-is) in part-fits A c L lists (getD met s []) (at-safe s hs) q hq);
@@ -179,17 +179,17 @@ module _ (A : Automaton) (c : ℕ) (L : List Position) (lists : (P : Position) �
       }
 
   pub found-few : length (found-in A c (safe-part A L) .rows) ≤ length L
-  unfolding R K met Met
+  unfolding R K met Met found-in row-at steps
   found-few =
       let l : length met ≤ length L = pigeons met L (met-listed .once) (λ P i. part-in A L P (leads-safe (met-listed .has P i))) in
       omega (arith, size-is)
 
   pub found-shape : (length (found-in A c (safe-part A L) .positions) ≡ length (found-in A c (safe-part A L) .rows)) × ((P : Position) → In (found-in A c (safe-part A L) .positions) P → length P ≡ A .states)
-  unfolding R K met Met
+  unfolding R K met Met found-in states-met row-at steps
   found-shape = (sym size-is, λ P i. reach-length A c (lists P .0 (part-in A L P (leads-safe (met-listed .has P i)))))
 
   pub found-nexts : (r : Row) → In (found-in A c (safe-part A L) .rows) r → length (r .nexts) ≡ A .situations
-  unfolding R K met
+  unfolding R K met found-in row-at steps
   found-nexts r i =
       let (P, j, e) = map-in (row-at A R met) met r i in
       ap (λ (r : Row). length (r .nexts)) e
@@ -197,16 +197,16 @@ module _ (A : Automaton) (c : ℕ) (L : List Position) (lists : (P : Position) �
       ∙ length-map-counting (λ x. step A (command-at A R P) x P) 0 (A .situations)
 
   in-safe : (P : Position) → In R P → InSafe A c P
-  unfolding R
+  unfolding R found-in row-at steps
   in-safe P i = (safe-part A L, part-safe A c L lists, λ Q j. lists Q .0 (part-in A L Q j), i)
 
   safe-in : (P : Position) → InSafe A c P → In R P
-  unfolding R
+  unfolding R found-in row-at steps
   safe-in P (S, safe, within, i) = part-largest A c L lists (In S) safe within P i
 
   -- a next state has a lower number than j, if its position stands before place j
   lower : (j s x : ℕ) → j ≤ length met → s < length met → x < A .situations → In (take j met) (step A (chosen (getD met s [])) x (getD met s [])) → K .next s x < j
-  unfolding Met
+  unfolding Met found-in row-at steps
   lower j s x hj hs hx i =
       let P : Position = step A (chosen (getD met s [])) x (getD met s []) in
       let (a, b) = next-at s hs x hx in
@@ -217,7 +217,7 @@ module _ (A : Automaton) (c : ℕ) (L : List Position) (lists : (P : Position) �
       omega arith
 
   numbered : NumberedAsMet (A .situations) K
-  unfolding Met nexts
+  unfolding Met nexts found-in row-at steps
   numbered j pos h = go (met-listed .ordered (take j met) (getD met j []) (drop (suc j) met) (split-at met j [] hj))
     where
       hj : j < length met
@@ -278,7 +278,7 @@ module _ (A : Automaton) (c : ℕ) (L : List Position) (lists : (P : Position) �
       go (inr m) = first-met m
 
   pub found-described : Described A c (controller (found-in A c (safe-part A L) .rows)) (found-in A c (safe-part A L) .positions)
-  unfolding R K met Met nexts chosen
+  unfolding R K met Met nexts chosen found-in row-at steps command-at
   found-described =
       record {
         long = sym size-is;

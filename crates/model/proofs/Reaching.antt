@@ -25,6 +25,7 @@ use Rattle.model.proofs.Runs.{start-length, step-length}
 -- tests
 
 pub decides-member : (L : List Position) (P : Position) → Decides (member L P) (In L P)
+unfolding member
 decides-member L P = decides-met same decides-same L P
 
 in-mark : (P : Position) (m : ℕ) → In P m → (q : ℕ) × (q < length P) × (mark P q ≡ m)
@@ -33,6 +34,7 @@ in-mark (a ∷ P) m (inl e) = (0, omega arith, sym e)
 in-mark (a ∷ P) m (inr i) = let (q, h, e) = in-mark P m i in (suc q, omega arith, e)
 
 pub decides-fits : (A : Automaton) (c : ℕ) (P : Position) → length P ≡ A .states → Decides (fits c P) (Fits A c P)
+unfolding fits
 decides-fits A c P l =
     decides-like (fits c P) (λ all q h. all (mark P q) (in-getD P q 0 (omega arith)))
     (λ f m i. (let (q, h, e) = in-mark P m i in let k : mark P q ≤ c + 1 = f q (omega arith) in omega arith))
@@ -40,21 +42,25 @@ decides-fits A c P l =
 
 module _ (A : Automaton) where
   pub in-steps : (P : Position) (u x : ℕ) → x < A .situations → In (steps A P u) (step A u x P)
+  unfolding steps
   in-steps P u x h = in-map (λ x. step A u x P) (counting 0 (A .situations)) x (in-counting 0 (A .situations) x (omega arith) (omega arith))
 
   pub steps-in : (P Q : Position) (u : ℕ) → In (steps A P u) Q → (x : ℕ) × (x < A .situations) × (Q ≡ step A u x P)
+  unfolding steps
   steps-in P Q u i =
       let (x, j, e) = map-in (λ x. step A u x P) (counting 0 (A .situations)) Q i in
       let r : (0 ≤ x) × (x < 0 + A .situations) = counting-in 0 (A .situations) x j in
       (x, omega (arith, r .1), e)
 
   pub decides-holds : (L : List Position) (P : Position) (u : ℕ) → Decides (holds A L P u) ((x : ℕ) → x < A .situations → In L (step A u x P))
+  unfolding holds
   decides-holds L P u =
       decides-like (holds A L P u) (λ all x h. all (step A u x P) (in-steps P u x h))
       (λ all Q i. (let (x, h, e) = steps-in P Q u i in subst (λ R. In L R) (sym e) (all x h)))
       (decides-every (member L) (In L) (decides-member L) (steps A P u))
 
   pub decides-kept : (L : List Position) (P : Position) → Decides (kept A L P) ((u : ℕ) × (u < A .commands) × ((x : ℕ) → x < A .situations → In L (step A u x P)))
+  unfolding kept
   decides-kept L P =
       decides-like (kept A L P)
       (λ r. (let (u, i, h) = r in let k : (0 ≤ u) × (u < 0 + A .commands) = counting-in 0 (A .commands) u i in (u, omega (arith, k .1), h)))
@@ -73,12 +79,14 @@ module _ (A : Automaton) (c : ℕ) where
   reach-fits (by-step u x r hu hx f) = f
 
   in-nexts : (P : Position) (u x : ℕ) → u < A .commands → x < A .situations → Fits A c (step A u x P) → In ((successors A c) P) (step A u x P)
+  unfolding successors
   in-nexts P u x hu hx f =
       in-kept-by (fits c) (joined (steps A P) (counting 0 (A .commands))) (step A u x P)
       (in-joined (steps A P) (counting 0 (A .commands)) u (step A u x P) (in-counting 0 (A .commands) u (omega arith) (omega arith)) (in-steps A P u x hx))
       (decides-fits A c (step A u x P) (step-length A u x P) .1 f)
 
   nexts-in : (P Q : Position) → In ((successors A c) P) Q → (u : ℕ) × (x : ℕ) × (u < A .commands) × (x < A .situations) × (Q ≡ step A u x P) × Fits A c (step A u x P)
+  unfolding successors
   nexts-in P Q i =
       let (j, f) = kept-by-in (fits c) (joined (steps A P) (counting 0 (A .commands))) Q i in
       let (u, k, s) = joined-in (steps A P) (counting 0 (A .commands)) Q j in
@@ -106,6 +114,7 @@ module _ (A : Automaton) (c : ℕ) where
   Reached capacity (some L) = Distinct L × (length L ≤ capacity) × ((P : Position) → In L P ↔ Reach A c P) × InMeetingOrder (successors A c) (start-position A) L
 
   pub reached : (capacity : ℕ) → Reached capacity (reach A c capacity)
+  unfolding reach reached-from
   reached capacity = go (cases-bool (fits c (start-position A)))
     where
       shut : Decides (fits c (start-position A)) (Fits A c (start-position A))
@@ -189,9 +198,11 @@ module _ (A : Automaton) where
         go (inr n) below = subst (λ l. In l P) (sym (pruned-on rounds L n)) (below stays P m)
 
   pub part-in : (L : List Position) (P : Position) → In (safe-part A L) P → In L P
+  unfolding safe-part
   part-in L P i = pruned-in (length L) L P i
 
   pub part-kept : (L : List Position) (P : Position) → In (safe-part A L) P → (u : ℕ) × (u < A .commands) × ((x : ℕ) → x < A .situations → In (safe-part A L) (step A u x P))
+  unfolding safe-part
   part-kept L P i = decides-kept A (safe-part A L) P .0 (pruned-kept (length L) L (omega arith) P i)
 
 module _ (A : Automaton) (c : ℕ) (L : List Position) (lists : (P : Position) → In L P ↔ Reach A c P) where
@@ -202,6 +213,7 @@ module _ (A : Automaton) (c : ℕ) (L : List Position) (lists : (P : Position) �
   part-safe P i = let (u, h, k) = part-kept A L P i in (u, h, λ x hx. (part-fits (step A u x P) (k x hx), k x hx))
 
   pub part-largest : (S : Position → Type 0) → Safe A c S → ((P : Position) → S P → Reach A c P) → (P : Position) → S P → In (safe-part A L) P
+  unfolding safe-part
   part-largest S safe within P m =
       pruned-keeps A S (λ Q n. (let (u, h, k) = safe Q n in (u, h, λ x hx. k x hx .1))) (length L) L (λ Q n. lists Q .1 (within Q n)) P m
 

@@ -266,6 +266,7 @@ module _ {X : Type 0} (same : X → X → Bool) (decides : (a b : X) → Decides
             rw (n, explore) (met ++ fresh same met (next w), r .0, r .1, leb-false (length (met ++ fresh same met (next w))) room n)
 
     pub searched : Result (reached-from same next room x)
+    unfolding reached-from
     searched = go (cases-bool (leb 1 room))
       where
         go : (leb 1 room ≡ true) ⊎ (leb 1 room ≡ false) → Result (reached-from same next room x)

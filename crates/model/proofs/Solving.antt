@@ -60,6 +60,7 @@ module _ (A : Automaton) (capacity : ℕ) where
             (decides-member (safe-part A L) (start-position A) .1 (part-largest A c L lists (RunsTo A K) (r .2) (r .3) (start-position A) (r .1))))
 
     best-here : Below c → member (safe-part A L) (start-position A) ≡ true → Best (found-in A c (safe-part A L)) c
+    unfolding found-in
     best-here below t =
         record {
           formed = formed;
@@ -125,4 +126,5 @@ module _ (A : Automaton) (capacity : ℕ) where
       go (some L) r m later = on L r m later (cases-bool (member (safe-part A L) (start-position A)))
 
   pub solved : (limit : ℕ) → Solved limit (solve A capacity limit)
+  unfolding solve reach
   solved limit = tried limit (suc limit) 0 (omega arith) (λ n h. absurd (omega arith))

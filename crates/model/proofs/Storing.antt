@@ -167,7 +167,7 @@ module _ (s : Sheet) (h : Sound s) (k : Stored) (c : Kept s k) where
   wf = c .best .formed
 
   bytes-same : tallies (k .found .positions) ≡ cert B K (k .found .count) low wf C v
-  unfolding K
+  unfolding K tallies
   bytes-same =
       let l : length (k .found .positions) ≡ length (k .found .rows) = c .best .shape .0 in
       sym (joined-counting (λ i. map (λ q. tally-byte (C i q)) (counting 0 (B .states))) (map tally-byte) (k .found .positions) 0 []

@@ -66,6 +66,7 @@ halves-back (suc S) l e h =
     ap (λ x. x ++ joined (bytes-of 2) (map number-of (pieces S 2 (drop 2 l)))) a ∙ ap (λ x. take 2 l ++ x) k ∙ take-append-drop 2 l
 
 record-back : (S : ℕ) (l : List ℕ) → length l ≡ 1 + 2 * S → Bytes l → record-bytes (row-of S l) ≡ l
+unfolding record-bytes
 record-back S [] e h = absurd (omega arith)
 record-back S (b ∷ l) e h = ap {B = List ℕ} (λ x. b ∷ x) (halves-back S l (omega arith) (λ c i. h c (inr i)))
 
@@ -155,6 +156,7 @@ module _ (A : Automaton) (bytes : List ℕ) (at : ℕ) (mark zeros : List ℕ) (
           }
 
 looked-good : (A : Automaton) (w : Window) (x : ℕ) → look-through A w ≡ accepts x → (every (good-row A (length (w .rows))) (w .rows) ≡ true) × (w .count ≡ x)
+unfolding look-through
 looked-good A w x e = go (cases-bool (every (good-row A (length (w .rows))) (w .rows))) (first-broken A w) refl
   where
     go : (every (good-row A (length (w .rows))) (w .rows) ≡ true) ⊎ (every (good-row A (length (w .rows))) (w .rows) ≡ false) → (o : Option Place) → first-broken A w ≡ o → (every (good-row A (length (w .rows))) (w .rows) ≡ true) × (w .count ≡ x)
@@ -201,6 +203,7 @@ module _ (A : Automaton) (bytes : List ℕ) (x : ℕ) (small : Bytes bytes) (e :
   D = records-size (A .situations) m + certificate-size (A .states) m
 
   p : Passed A bytes at (take 4 end) (drop 18 end) m (getD end 17 0) (getD end 14 0) (getD end 15 0) (getD end 16 0) (number-of (piece 4 4 end)) (number-of (piece 8 4 end)) x
+  unfolding File.check
   p = passed A bytes at (take 4 end) (drop 18 end) m (getD end 17 0) (getD end 14 0) (getD end 15 0) (getD end 16 0) (number-of (piece 4 4 end)) (number-of (piece 8 4 end)) x e
 
   end-long : length end ≡ 20
@@ -218,6 +221,7 @@ module _ (A : Automaton) (bytes : List ℕ) (x : ℕ) (small : Bytes bytes) (e :
   count-is = looked-good A (window-at A bytes at m (getD end 17 0)) x (p .looked) .1
 
   end-is : end ≡ trailer A m x
+  unfolding trailer
   end-is =
       let a : end ≡ take 4 end ++ drop 4 end = sym (take-append-drop 4 end) in
       let b : drop 4 end ≡ take 4 (drop 4 end) ++ drop 8 end = part-at 4 4 end in
@@ -291,6 +295,7 @@ module _ (A : Automaton) (bytes : List ℕ) (x : ℕ) (small : Bytes bytes) (e :
   )
 
   pub unpacked-file : FileOf A (controller rows) x bytes
+  unfolding file
   unpacked-file = (
     take (at - D) bytes,
     cert,

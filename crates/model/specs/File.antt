@@ -28,7 +28,7 @@ number-of (b ∷ bs) = b + 256 * number-of bs
 -- PARTS
 
 -- a command byte, and a 16-bit next state per situation
-abbrev pub record-bytes : Row → List ℕ
+unfoldable pub record-bytes : Row → List ℕ
 record-bytes r = r .command ∷ joined (bytes-of 2) (r .nexts)
 
 -- FF for absent, or a tally
@@ -49,7 +49,7 @@ records-size situations m = m * (1 + 2 * situations)
 abbrev pub certificate-size : ℕ → ℕ → ℕ
 certificate-size states m = m * states
 
-abbrev pub trailer : Automaton → ℕ → ℕ → List ℕ
+unfoldable pub trailer : Automaton → ℕ → ℕ → List ℕ
 trailer A m c =
     let cert = certificate-size (A .states) m in
     file-mark
@@ -59,11 +59,11 @@ trailer A m c =
     ++ (A .situations ∷ A .commands ∷ A .states ∷ c ∷ 0 ∷ 0 ∷ []))))
 
 -- the file of a controller with a certificate and the number c
-abbrev pub file : Automaton → List Row → List ℕ → ℕ → List ℕ
+unfoldable pub file : Automaton → List Row → List ℕ → ℕ → List ℕ
 file A rows certificate c = joined record-bytes rows ++ (certificate ++ trailer A (length rows) c)
 
 -- the certificate of the positions: each state has its position's tallies
-abbrev pub tallies : List Position → List ℕ
+unfoldable pub tallies : List Position → List ℕ
 tallies positions = joined (map tally-byte) positions
 
 -- CHECK
@@ -139,7 +139,7 @@ arrow-places A m =
     (counting 0 m)
 
 -- first all bytes, then the start states, then all arrows
-abbrev pub first-broken : Automaton → Window → Option Place
+unfoldable pub first-broken : Automaton → Window → Option Place
 first-broken A w =
     elim (first (bad-byte w) (byte-places A (length (w .rows)))) [
       | some at ↦ some at
@@ -147,14 +147,14 @@ first-broken A w =
           elim (first (bad-start A w) (start-places A)) [ some at ↦ some at | none ↦ first (bad-arrow A w) (arrow-places A (length (w .rows))) ]
     ]
 
-abbrev pub look-through : Automaton → Window → Result ℕ Refusal
+unfoldable pub look-through : Automaton → Window → Result ℕ Refusal
 look-through A w =
     elim (every (good-row A (length (w .rows))) (w .rows)) [
       | false ↦ refuses Record
       | true ↦ elim (first-broken A w) [ some at ↦ refuses (Certificate at) | none ↦ accepts (w .count) ]
     ]
 
-abbrev pub check : Automaton → List ℕ → Result ℕ Refusal
+unfoldable pub check : Automaton → List ℕ → Result ℕ Refusal
 check A bytes =
     let at = length bytes - 20 in
     let end = drop at bytes in

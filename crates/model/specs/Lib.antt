@@ -9,6 +9,7 @@ pub mod Refusals
 pub mod File
 pub mod FileLaws
 pub mod Sheet
+pub mod Computing
 pub mod ReadingLaws
 pub mod RuleLaws
 pub mod CountLaws

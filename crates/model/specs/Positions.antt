@@ -48,7 +48,7 @@ step A u x P = map (λ p. largest (handed A u x P p) (A .states)) (counting 0 (A
 abbrev pub Fits : Automaton → ℕ → Position → Type 0
 Fits A c P = (q : ℕ) → q < A .states → mark P q ≤ c + 1
 
-abbrev pub fits : ℕ → Position → Bool
+unfoldable pub fits : ℕ → Position → Bool
 fits c P = every (λ m. leb m (c + 1)) P
 
 abbrev pub same : Position → Position → Bool
@@ -83,15 +83,15 @@ abbrev pub Stays : Automaton → ℕ → ℕ → Position → Type 0
 Stays A c u P = (x : ℕ) → x < A .situations → InSafe A c (step A u x P)
 
 -- the steps under a command in every situation in turn
-abbrev pub steps : Automaton → Position → ℕ → List Position
+unfoldable pub steps : Automaton → Position → ℕ → List Position
 steps A P u = map (λ x. step A u x P) (counting 0 (A .situations))
 
 -- the steps not over c, by ascending command and situation
-abbrev pub successors : Automaton → ℕ → Position → List Position
+unfoldable pub successors : Automaton → ℕ → Position → List Position
 successors A c P = kept-by (fits c) (joined (steps A P) (counting 0 (A .commands)))
 
 -- Reach(c) in the order of meeting; none, if it has more positions than the capacity
-abbrev pub reach : Automaton → ℕ → ℕ → Option (List Position)
+unfoldable pub reach : Automaton → ℕ → ℕ → Option (List Position)
 reach A c capacity =
     elim (fits c (start-position A)) [
       | true ↦ reached-from same (successors A c) capacity (start-position A)
@@ -99,14 +99,14 @@ reach A c capacity =
     ]
 
 -- the same as tests, for a list within Reach(c): a step over c is not in it
-abbrev pub member : List Position → Position → Bool
+unfoldable pub member : List Position → Position → Bool
 member L P = any (same P) L
 
-abbrev pub holds : Automaton → List Position → Position → ℕ → Bool
+unfoldable pub holds : Automaton → List Position → Position → ℕ → Bool
 holds A L P u = every (member L) (steps A P u)
 
 -- P has a command that keeps it within the list
-abbrev pub kept : Automaton → List Position → Position → Bool
+unfoldable pub kept : Automaton → List Position → Position → Bool
 kept A L P = any (holds A L P) (counting 0 (A .commands))
 
 -- what is left of the list when no more positions are removed; each round but the last removes one or more
@@ -117,7 +117,7 @@ pruned A (suc rounds) L =
     elim (eqb (length rest) (length L)) [ true ↦ L | false ↦ pruned A rounds rest ]
 
 -- the largest safe set within the list
-abbrev pub safe-part : Automaton → List Position → List Position
+unfoldable pub safe-part : Automaton → List Position → List Position
 safe-part A L = pruned A (length L) L
 
 -- the first that passes the test, else 0
@@ -126,15 +126,15 @@ lowest f [] = 0
 lowest f (u ∷ us) = elim (f u) [ true ↦ u | false ↦ lowest f us ]
 
 -- the lowest command that stays in the safe set
-abbrev pub command-at : Automaton → List Position → Position → ℕ
+unfoldable pub command-at : Automaton → List Position → Position → ℕ
 command-at A R P = lowest (holds A R P) (counting 0 (A .commands))
 
 -- the states of the controller: the positions met from the start under the commands chosen
-abbrev pub states-met : Automaton → List Position → List Position
+unfoldable pub states-met : Automaton → List Position → List Position
 states-met A R =
     elim (reached-from same (λ P. steps A P (command-at A R P)) (length R) (start-position A)) [ none ↦ [] | some met ↦ met ]
 
-abbrev pub row-at : Automaton → List Position → List Position → Position → Row
+unfoldable pub row-at : Automaton → List Position → List Position → Position → Row
 row-at A R met P =
     let u = command-at A R P in
     record { command = u; nexts = map (place same met) (steps A P u) }
@@ -169,7 +169,7 @@ pub record Found : Type 0 where
   pub rows : List Row
   pub positions : List Position
 
-abbrev pub found-in : Automaton → ℕ → List Position → Found
+unfoldable pub found-in : Automaton → ℕ → List Position → Found
 found-in A c R =
     let met = states-met A R in
     record { count = c; rows = map (row-at A R met) met; positions = met }
@@ -191,5 +191,5 @@ try-from A capacity (suc turns) c =
     ]
 
 -- c = 0, 1, 2 up to the limit
-abbrev pub solve : Automaton → ℕ → ℕ → Search
+unfoldable pub solve : Automaton → ℕ → ℕ → Search
 solve A capacity limit = try-from A capacity (suc limit) 0

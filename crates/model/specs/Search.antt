@@ -30,5 +30,5 @@ explore same next room (suc turns) met (x ∷ waiting) =
     ]
 
 -- all nodes that the neighbours of a first one lead to, in the order of meeting; none, if there are more than `room`
-abbrev pub reached-from : {X : Type 0} → (X → X → Bool) → (X → List X) → ℕ → X → Option (List X)
+unfoldable pub reached-from : {X : Type 0} → (X → X → Bool) → (X → List X) → ℕ → X → Option (List X)
 reached-from same next room x = elim (leb 1 room) [ true ↦ explore same next room room (x ∷ []) (x ∷ []) | false ↦ none ]

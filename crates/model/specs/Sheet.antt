@@ -37,7 +37,7 @@ pub record Sheet : Type 0 where
   pub stored : Option Stored
 
 -- the look that open is preceded by
-abbrev pub look : Automaton → ℕ → ℕ → ℕ → Option Refusal
+unfoldable pub look : Automaton → ℕ → ℕ → ℕ → Option Refusal
 look house situations commands capacity =
     elim (numbers-in-range situations commands && between 1 1024 capacity) [
       | false ↦ some OutOfRange
@@ -237,7 +237,7 @@ on-good-sheet s (write buffer) = write-on s buffer
 on-good-sheet s (check file) = answers s (verdict (File.check (rules s) file))
 
 -- opened on what the look refuses, a sheet gives that refusal from every call
-abbrev pub respond : Sheet → Call → Outcome
+unfoldable pub respond : Sheet → Call → Outcome
 respond s call =
     elim (looked s) [ some r ↦ answers s (refused r) | none ↦ on-good-sheet s call ]
 

@@ -117,7 +117,7 @@ meaning situations commands r =
     }
 
 -- the states that follow q under some command in some situation
-abbrev pub neighbours : Automaton → ℕ → List ℕ
+unfoldable pub neighbours : Automaton → ℕ → List ℕ
 neighbours A q =
     joined
     (λ u.
@@ -128,10 +128,10 @@ neighbours A q =
     (counting 0 (A .commands))
 
 -- the states reached from the start state
-abbrev pub reached : ℕ → ℕ → TextRule → Option (List ℕ)
+unfoldable pub reached : ℕ → ℕ → TextRule → Option (List ℕ)
 reached situations commands r = reached-from eqb (neighbours (meaning situations commands r)) (r .states) (r .start)
 
-abbrev pub all-reached : ℕ → ℕ → TextRule → Bool
+unfoldable pub all-reached : ℕ → ℕ → TextRule → Bool
 all-reached situations commands r = elim (reached situations commands r) [ none ↦ false | some met ↦ eqb (length met) (r .states) ]
 
 -- NUMBERS AND THEIR RANGES

@@ -58,17 +58,21 @@ module _ (A : Automaton) (rows : List Row) (certificate : List ℕ) (c : ℕ) (e
   before-long = omega (arith, length-append R certificate, records-long, whole)
 
   bytes-split : (R ++ certificate) ++ T ≡ bytes
+  unfolding file
   bytes-split = append-assoc R certificate T
 
   bytes-long : length bytes ≡ body A (length rows) + 20
+  unfolding trailer
   bytes-long = ap length (sym bytes-split) ∙ omega (arith, length-append (R ++ certificate) T, before-long)
 
   -- a byte of a record
   in-record : (s j : ℕ) → s < length rows → j < width A → byte-at bytes (s * width A + j) ≡ getD (record-bytes (getD rows s no-row)) j 0
+  unfolding file
   in-record s j hs hj = joined-at record-bytes (width A) rows (certificate ++ T) no-row record-long s j hs hj
 
   -- a byte of a next state
   in-next : (s x i : ℕ) → s < length rows → x < A .situations → i < 2 → byte-at bytes (s * width A + suc (x * 2 + i)) ≡ getD (bytes-of 2 (controller rows .next s x)) i 0
+  unfolding record-bytes
   in-next s x i hs hx hi =
       let N : List ℕ = getD rows s no-row .nexts in
       let l : length N ≡ A .situations = each (getD rows s no-row) (in-getD rows s no-row hs) in
@@ -82,6 +86,7 @@ module _ (A : Automaton) (rows : List Row) (certificate : List ℕ) (c : ℕ) (e
       ap (byte-at bytes) n ∙ ap (λ l. byte-at l (length (R ++ certificate) + i)) (sym bytes-split) ∙ getD-append-add (R ++ certificate) T i 0
 
   laid-out : LaidOut A rows certificate c bytes
+  unfolding trailer record-bytes file
   laid-out =
       record {
         long = bytes-long;

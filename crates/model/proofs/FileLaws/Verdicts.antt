@@ -105,6 +105,7 @@ module _ (A : Automaton) (bytes : List ℕ) where
       (four (T 4) (T 5) (T 6) (T 7)) (four (T 8) (T 9) (T 10) (T 11))
 
   check-told : check A bytes ≡ told
+  unfolding check
   check-told =
       λ i. check-parts A bytes (length bytes - 20) (take 4 end) (drop 18 end) (size-read i) (end-byte 17 i) (end-byte 14 i) (end-byte 15 i) (end-byte 16 i)
       (distance-read 4 i) (distance-read 8 i)
@@ -455,12 +456,15 @@ module _ (A : Automaton) (bytes : List ℕ) (fits : body A (told-size bytes) + 2
 
     -- the three looks, one after the other
     broken-byte : (p : Place) → first (File.bad-byte w) byte-list ≡ some p → first-broken A w ≡ some p
+    unfolding first-broken
     broken-byte p k = rw (k, first-broken)
 
     broken-start : (p : Place) → first (File.bad-byte w) byte-list ≡ none → first (File.bad-start A w) (start-places A) ≡ some p → first-broken A w ≡ some p
+    unfolding first-broken
     broken-start p k l = rw (k, l, first-broken)
 
     broken-arrow : first (File.bad-byte w) byte-list ≡ none → first (File.bad-start A w) (start-places A) ≡ none → first-broken A w ≡ first (File.bad-arrow A w) arrow-list
+    unfolding first-broken
     broken-arrow k l = rw (k, l, first-broken)
 
     abbrev Broken : Option Place → Type 0
@@ -520,12 +524,15 @@ module _ (A : Automaton) (bytes : List ℕ) where
   looks t r d = check-told A bytes ∙ rw (t, r, d, check-parts)
 
   not-records : records-test ≡ false → look-through A window ≡ refuses Record
+  unfolding look-through
   not-records g = rw (g, look-through)
 
   broken : (p : Place) → records-test ≡ true → first-broken A window ≡ some p → look-through A window ≡ refuses (Certificate p)
+  unfolding look-through
   broken p g b = rw (g, b, look-through)
 
   whole : records-test ≡ true → first-broken A window ≡ none → look-through A window ≡ accepts (told-count bytes)
+  unfolding look-through
   whole g b = rw (g, b, look-through)
 
   check-said : CheckSays A bytes (check A bytes)

@@ -42,6 +42,7 @@ module _ (A : Automaton) (q : ℕ) where
       (λ e. let d : those u x p ≡ [] = cc in let k : In {X = ℕ} [] r = subst (λ z. In z r) d h in absurd k)
 
   pub in-neighbours : (u x p : ℕ) → u < A .commands → Follows A q u x p → In (neighbours A q) p
+  unfolding neighbours
   in-neighbours u x p h f =
       in-joined (λ u. joined (λ x. joined (those u x) (counting 0 (A .states))) (counting 0 (A .situations))) (counting 0 (A .commands)) u p
       (in-counting 0 (A .commands) u (omega arith) (omega arith))
@@ -50,6 +51,7 @@ module _ (A : Automaton) (q : ℕ) where
       (in-joined (those u x) (counting 0 (A .states)) p p (in-counting 0 (A .states) p (omega arith) (omega (arith, f .inside))) (in-those u x p (f .follows))))
 
   pub from-neighbours : (p : ℕ) → In (neighbours A q) p → (u : ℕ) × (x : ℕ) × (u < A .commands) × Follows A q u x p
+  unfolding neighbours
   from-neighbours p h =
       let a = joined-in (λ u. joined (λ x. joined (those u x) (counting 0 (A .states))) (counting 0 (A .situations))) (counting 0 (A .commands)) p h in
       let u = a .0 in
@@ -85,6 +87,7 @@ module _ (S C : ℕ) (r : TextRule) (start : r .start < r .states) where
   led-counted q way = in-counting 0 (r .states) q (omega arith) (omega (arith, reached-inside q (led-reached q way)))
 
   answer : Result eqb decides-eqb (neighbours A) (r .states) (r .start) (reached S C r)
+  unfolding reached reached-from
   answer = searched eqb decides-eqb (neighbours A) (r .states) (r .start)
 
   -- the list that the search gives has each reached state once
@@ -106,6 +109,7 @@ module _ (S C : ℕ) (r : TextRule) (start : r .start < r .states) where
       go (some L) e = (L, e)
 
   all-reached-is : (L : List ℕ) → reached S C r ≡ some L → all-reached S C r ≡ eqb (length L) (r .states)
+  unfolding all-reached
   all-reached-is L e = rw (e, all-reached)
 
   pub all-reached-exact : (all-reached S C r ≡ true) ↔ AllReached A
