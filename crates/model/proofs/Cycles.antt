@@ -45,29 +45,37 @@ module _ (A : Automaton) (K : Controller) where
           many = omega (arith, more);
           path = λ i j p. path′ i j p (raise-cases V s q 1 i j);
           rejecting = λ i j p. rejecting′ i j p (raise-cases V s q 1 i j);
-          leads = λ i j p. leads′ i j p (raise-cases V s q 1 i j) }
+          leads = λ i j p. leads′ i j p (raise-cases V s q 1 i j);
+        }
       where
         V′ : ℕ → ℕ → ℕ
         V′ = raise V s q 1
+
         Cases : ℕ → ℕ → Type 0
         Cases i j = ((s ≡ i) × (q ≡ j) × (V′ i j ≡ 1)) ⊎ (V′ i j ≡ V i j)
+
         once′ : (i j : ℕ) → Cases i j → V′ i j ≤ 1
         once′ i j (inl c) = omega (arith, c .2)
         once′ i j (inr e) = omega (arith, e, once i j)
+
         up : (i j : ℕ) → Cases i j → V i j ≤ V′ i j
         up i j (inl c) = omega (arith, c .2, once i j)
         up i j (inr e) = omega arith
+
         more : total V < total V′
         more =
             sum-lt (K .size) (λ i. sum (A .states) (V i)) (λ i. sum (A .states) (V′ i))
             (λ i _. sum-le (A .states) (V i) (V′ i) (λ j _. up i j (raise-cases V s q 1 i j))) s hs
             (sum-lt (A .states) (V s) (V′ s) (λ j _. up s j (raise-cases V s q 1 s j)) q hq (omega (arith, raise-here V s q 1, z)))
+
         path′ : (i j : ℕ) → 0 < V′ i j → Cases i j → (n : ℕ) × Path A K i j n
         path′ i j p (inl c) = (w .0, subst₂ (λ a b. Path A K a b (w .0)) (c .0) (c .1) (w .1))
         path′ i j p (inr e) = path i j (omega arith)
+
         rejecting′ : (i j : ℕ) → 0 < V′ i j → Cases i j → A .reject j ≡ true
         rejecting′ i j p (inl c) = subst (λ b. A .reject b ≡ true) (c .1) r
         rejecting′ i j p (inr e) = rejecting i j (omega arith)
+
         leads′ : (i j : ℕ) → 0 < V′ i j → Cases i j → Leads i j s q
         leads′ i j p (inl c) = inl (sym (c .0), sym (c .1))
         leads′ i j p (inr e) = inr (trail i j (omega arith))
@@ -89,8 +97,8 @@ module _ (A : Automaton) (K : Controller) where
     met : {s q t : ℕ} → Path A K s q t → RejectingCycle A K ⊎ Met s q t
     met (begin {q} b) =
         let r : RejectingCycle A K ⊎ Met 0 q (0 + weight A q) =
-          meet 0 q 0 (wf .some-state) (b .inside) (weight A q, begin b) (λ _ _. 0) (λ _ _. omega arith) (omega arith)
-          (λ i j p. absurd (omega arith)) (λ i j p. absurd (omega arith)) (λ i j p. absurd (omega arith)) in
+        meet 0 q 0 (wf .some-state) (b .inside) (weight A q, begin b) (λ _ _. 0) (λ _ _. omega arith) (omega arith)
+        (λ i j p. absurd (omega arith)) (λ i j p. absurd (omega arith)) (λ i j p. absurd (omega arith)) in
         subst (λ n. RejectingCycle A K ⊎ Met 0 q n) (omega arith) r
     met (onward {s} {q} {t} x p w f) = go (met w)
       where
@@ -102,8 +110,11 @@ module _ (A : Automaton) (K : Controller) where
 
     met-few : {s q t : ℕ} → Met s q t → t ≤ K .size * A .states
     met-few m =
-        omega (arith, m .many,
-          sum-bound (K .size) (λ s. sum (A .states) (m .at s)) (A .states) (λ s _. omega (arith, sum-bound (A .states) (m .at s) 1 (λ q _. m .once s q))))
+        omega (
+          arith,
+          m .many,
+          sum-bound (K .size) (λ s. sum (A .states) (m .at s)) (A .states) (λ s _. omega (arith, sum-bound (A .states) (m .at s) 1 (λ q _. m .once s q))),
+        )
 
     -- a bound, however large, leads down to the count
     descend : (c : ℕ) → AtMost A K c → (k : ℕ) × HasCount A K k × (k ≤ c)
@@ -121,6 +132,7 @@ module _ (A : Automaton) (K : Controller) where
         late : {s q t : ℕ} → K .size * A .states < t → RejectingCycle A K ⊎ Met s q t → RejectingCycle A K
         late over (inl z) = z
         late over (inr m) = absurd (omega (arith, over, met-few m))
+
         go : AtMost A K (K .size * A .states) ⊎ Exceeds A K (K .size * A .states) → ((c : ℕ) × HasCount A K c × (c ≤ K .size * A .states)) ⊎ RejectingCycle A K
         go (inl most) = inl (descend (K .size * A .states) most)
         go (inr (s, q, t, w, over)) = inr (late over (met w))

@@ -17,7 +17,7 @@ use Rattle.model.specs.Automaton.{Automaton, weight}
 use Rattle.model.specs.Search.{reached-from}
 use Rattle.model.specs.Lists.{every, any, joined, In, Distinct}
 use Rattle.model.specs.Positions.{successors, Position, mark, start-position, step, Fits, fits, same, Reach, at-start, by-step, MoreThan, Holds, Safe, steps, reach, member, holds, kept, pruned, safe-part, lowest}
-use Rattle.model.specs.SearchLaws.{InMeetingOrder, Leads, here, further, Both-Search-Exactly, Reach-Exact, Safe-Part-Largest}
+use Rattle.model.specs.SearchLaws.{InMeetingOrder, Leads, here, further, Reach-Exact, Safe-Part-Largest}
 use Rattle.model.proofs.Lists.{in-map, map-in, in-joined, joined-in, in-counting, counting-in, in-kept-by, kept-by-in, kept-by-turn, decides-any, decides-every, decides-same, in-getD}
 use Rattle.model.proofs.Searches.{search-exact, decides-met, Listed, Over, Result, searched}
 use Rattle.model.proofs.Runs.{start-length, step-length}
@@ -221,6 +221,3 @@ pub safe-part-largest : Safe-Part-Largest
 safe-part-largest A c capacity L e =
     let (d, few, lists, ordered) = reach-exact A c capacity .0 L e in
     (part-safe A c L lists, λ S safe within P i. part-largest A c L lists (In S) safe within P i)
-
-pub both-search : Both-Search-Exactly
-both-search = ((λ next. search-exact ℕ eqb next decides-eqb), (λ next. search-exact Position same next decides-same))

@@ -303,7 +303,7 @@ module _ {X : Type 0} (same : X → X → Bool) (decides : (a b : X) → Decides
             first y (inl e) = subst (λ z. Leads next x z) (sym e) here
             first y (inr b) = absurd b
 
-pub search-exact : (X : Type 0) (same : X → X → Bool) (next : X → List X) → Search-Exact X same next
+pub search-exact : (X : Type 0) → Search-Exact X
 search-exact X same next decides room x = (
   λ L e. list L (subst (Result same decides next room x) e (searched same decides next room x)),
   λ e. subst (Result same decides next room x) e (searched same decides next room x),

@@ -6,11 +6,10 @@ use mathlib.Core.List.{List, [], _∷_, _++_}
 use mathlib.Core.Option.{Option, none, some}
 use mathlib.Core.Logic.{_⊎_, _↔_}
 use lib.ListN.{length}
-use lib.Dec.{eqb}
 use Rattle.model.specs.Lists.{In, Distinct}
 use Rattle.model.specs.Automaton.{Automaton}
 use Rattle.model.specs.Search.{reached-from}
-use Rattle.model.specs.Positions.{Position, same, start-position, Reach, MoreThan, Safe, reach, safe-part, successors}
+use Rattle.model.specs.Positions.{Position, start-position, Reach, MoreThan, Safe, reach, safe-part, successors}
 
 -- what neighbours lead to from x
 pub data Leads {X : Type 0} (next : X → List X) (x : X) : X → Type 0 where
@@ -41,13 +40,9 @@ Searches-Exactly X same next =
     → Distinct L × (length L ≤ room) × ((y : X) → In L y ↔ Leads next x y) × InMeetingOrder next x L)
     × (reached-from same next room x ≡ none → (L : List X) × Distinct L × ((y : X) → In L y → Leads next x y) × (room < length L))
 
--- for any kind of node with a test of being the same
-abbrev pub Search-Exact : (X : Type 0) → (X → X → Bool) → (X → List X) → Type 0
-Search-Exact X same next = ((a b : X) → (same a b ≡ true) ↔ (a ≡ b)) → Searches-Exactly X same next
-
--- for rule states, and for positions
-abbrev pub Both-Search-Exactly : Type 0
-Both-Search-Exactly = ((next : ℕ → List ℕ) → Searches-Exactly ℕ eqb next) × ((next : Position → List Position) → Searches-Exactly Position same next)
+-- for nodes of this kind, and any test of being the same node
+abbrev pub Search-Exact : Type 0 → Type 0
+Search-Exact X = (same : X → X → Bool) (next : X → List X) → ((a b : X) → (same a b ≡ true) ↔ (a ≡ b)) → Searches-Exactly X same next
 
 -- the list is Reach(c), each position once, in the order of meeting by ascending command and situation; and where there is no list,
 -- Reach(c) has more positions than the capacity

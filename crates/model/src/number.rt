@@ -31,7 +31,10 @@ impl LineFault {
         ensures { λ r. ⌜ spot (r .line) (r .byte) ≡ line-fault-spot (now (self .entry)) ⌝ }
     {
         match *self {
-            LineFault::Word(word) => TextPlace { line: word.line, byte: word.byte },
+            LineFault::Word(word) => TextPlace {
+                line: word.line,
+                byte: word.byte,
+            },
             LineFault::Order { line } => TextPlace { line, byte: 0 },
             LineFault::Range { line, byte } => TextPlace { line, byte },
         }
