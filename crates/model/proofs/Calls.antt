@@ -17,7 +17,7 @@ use Rattle.model.specs.declared.refusal.Refusal.the-variants.{OutOfRange, Hous
 use Rattle.model.specs.Lists.{any, In}
 use Rattle.model.specs.Automaton.{Automaton}
 use Rattle.model.specs.Text.{Named, ReadRule, blank, filled, between, numbers-in-range}
-use Rattle.model.specs.Positions.{same, Search, found, none-found, too-crowded}
+use Rattle.model.specs.Positions.{same, Solution, found, none-found, too-crowded}
 use Rattle.model.specs.Positions as Positions
 use Rattle.model.specs.Sheet.{Sheet, Stored, look, looked, rules, with-added, with-limit, with-stored, Call, add, withdraw, limit, solve, frame, write, check, Answer, done, count, command, wrote, refused, Outcome, answers, small, same-name, row-in, add-to, withdraw-from, limit-on, solve-with, moved, current-command, frame-with, write-with, file-of, overwritten, on-good-sheet, respond}
 use Rattle.model.specs.SheetLaws.{SameLetter, SameName, Names-Exact, InRange, FitsSheet, Look-Exact, Like, HasName, HasRoom, Others, end, drops, keeps, Does, add-blank, add-unlike, add-taken, add-full, adds, withdraw-unknown, withdraws, limit-over, limits, finds, finds-none, crowds, frame-none, frame-large, moves, write-none, write-short, writes, checks, Calls-Exact}
@@ -266,7 +266,7 @@ module _ (s : Sheet) where
       go (inr f) = subst (Does s (limit n)) (sym (over-is n f)) (limit-over n (leb-false n 14 f))
 
   -- solve
-  solve-does : (x : Search) → Positions.solve (rules s) (s .capacity) (s .limit) ≡ x → Does s solve (solve-with s x)
+  solve-does : (x : Solution) → Positions.solve (rules s) (s .capacity) (s .limit) ≡ x → Does s solve (solve-with s x)
   solve-does (found f) e = finds f e
   solve-does none-found e = finds-none e
   solve-does too-crowded e = crowds e

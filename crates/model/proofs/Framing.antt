@@ -12,7 +12,7 @@ use Rattle.model.specs.Rules.{together}
 use Rattle.model.specs.Lists.{any, In}
 use Rattle.model.specs.declared.refusal.Refusal.{Refusal}
 use Rattle.model.specs.declared.refusal.Refusal.the-variants.{NoneFound, Crowded}
-use Rattle.model.specs.Positions.{Found, found, none-found, too-crowded, Search, MoreThan}
+use Rattle.model.specs.Positions.{Found, found, none-found, too-crowded, Solution, MoreThan}
 use Rattle.model.specs.Positions as Positions
 use Rattle.model.specs.Sheet.{Sheet, Stored, opened, rule-list, rules, with-stored, Call, solve, frame, Answer, count, command, refused, Outcome, answers, row-in, solve-with, respond, answer, after, run, replies}
 use Rattle.model.specs.SheetLaws.{stored-controller, in-next, Does, add-blank, add-unlike, add-taken, add-full, adds, withdraw-unknown, withdraws, limit-over, limits, finds, finds-none, crowds, frame-none, frame-large, moves, write-none, write-short, writes, checks}
@@ -116,7 +116,7 @@ pub frames-within : (s : Sheet) → Sound s → (later : List Call) → Frames-W
 unfolding K Holds
 frames-within s h later c m u e never fs gs split A i q t w = go (Positions.solve (rules s) (s .capacity) (s .limit)) refl (solved (rules s) (s .capacity) (s .limit))
   where
-    go : (x : Search) → Positions.solve (rules s) (s .capacity) (s .limit) ≡ x → Solved (rules s) (s .capacity) (s .limit) x → t ≤ c
+    go : (x : Solution) → Positions.solve (rules s) (s .capacity) (s .limit) ≡ x → Solved (rules s) (s .capacity) (s .limit) x → t ≤ c
     go (found f) k b =
         let r : respond s solve ≡ solve-with s (found f) = solve-answer s h (found f) k in
         let a : answer s solve ≡ count (f .count) (length (f .rows)) (row-in f 0 .command) = ap (λ (o : Outcome). o .answer) r in

@@ -15,7 +15,7 @@ use Rattle.model.specs.Rules.{together}
 use Rattle.model.specs.Lists.{any, In}
 use Rattle.model.specs.declared.refusal.Refusal.{Refusal}
 use Rattle.model.specs.declared.refusal.Refusal.the-variants.{NoneFound, Crowded}
-use Rattle.model.specs.Positions.{Found, found, none-found, too-crowded, Search, MoreThan}
+use Rattle.model.specs.Positions.{Found, found, none-found, too-crowded, Solution, MoreThan}
 use Rattle.model.specs.Positions as Positions
 use Rattle.model.specs.Sheet.{Sheet, Stored, opened, rule-list, rules, solve, Answer, count, refused, Outcome, row-in, solve-with, respond, answer, run}
 use Rattle.model.specs.File as File
@@ -35,7 +35,7 @@ module _ (s : Sheet) (h : Sound s) where
   pub no-cycle : (K : Controller) (c : ℕ) → CountAtMost (rule-list s) K c → NoRejectingCycle (rule-list s) K
   no-cycle K c most A i = bounded-is-finite A K c (most A i) .0
 
-  pub solve-answer : (x : Search) → Positions.solve (rules s) (s .capacity) (s .limit) ≡ x → respond s solve ≡ solve-with s x
+  pub solve-answer : (x : Solution) → Positions.solve (rules s) (s .capacity) (s .limit) ≡ x → respond s solve ≡ solve-with s x
   solve-answer x e = respond-is s solve (h .looked) ∙ ap (solve-with s) e
 
   none-on : (c : ℕ) → History.NoneWithin (rules s) c → NoneOnSheet s c
@@ -47,7 +47,7 @@ module _ (s : Sheet) (h : Sound s) where
   pub solve-least : Solve-Least s
   solve-least = go (Positions.solve (rules s) (s .capacity) (s .limit)) refl (solved (rules s) (s .capacity) (s .limit))
     where
-      go : (x : Search) → Positions.solve (rules s) (s .capacity) (s .limit) ≡ x → Solved (rules s) (s .capacity) (s .limit) x → Solve-Least s
+      go : (x : Solution) → Positions.solve (rules s) (s .capacity) (s .limit) ≡ x → Solved (rules s) (s .capacity) (s .limit) x → Solve-Least s
       go (found f) e b =
           let r : respond s solve ≡ solve-with s (found f) = solve-answer (found f) e in
           let a : answer s solve ≡ count (f .count) (length (f .rows)) (row-in f 0 .command) = ap (λ (o : Outcome). o .answer) r in

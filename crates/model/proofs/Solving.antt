@@ -10,7 +10,7 @@ use lib.ListN.{length, getD}
 use Rattle.std.proofs.shelf.Tests.{cases-bool, cases-lt, cases-eq, both-ways}
 use Rattle.model.specs.Automaton.{Automaton, Row, Controller, WellFormed, Path, AtMost, Exceeds, HasCount, controller}
 use Rattle.model.specs.Lists.{In, Distinct}
-use Rattle.model.specs.Positions.{Position, mark, start-position, Fits, Reach, MoreThan, Safe, reach, member, safe-part, Found, found-in, Described, Search, found, none-found, too-crowded, try-from, solve}
+use Rattle.model.specs.Positions.{Position, mark, start-position, Fits, Reach, MoreThan, Safe, reach, member, safe-part, Found, found-in, Described, Solution, found, none-found, too-crowded, try-from, solve}
 use Rattle.model.specs.History.{NoneWithin}
 use Rattle.model.specs.CountLaws.{Valid}
 use Rattle.model.proofs.Theory.{RunsTo}
@@ -40,7 +40,7 @@ module _ (A : Automaton) (capacity : ℕ) where
     pub shape : (length (f .positions) ≡ length (f .rows)) × ((P : Position) → In (f .positions) P → length P ≡ A .states)
     pub nexts : (r : Row) → In (f .rows) r → length (r .nexts) ≡ A .situations
 
-  abbrev pub Solved : ℕ → Search → Type 0
+  abbrev pub Solved : ℕ → Solution → Type 0
   Solved limit (found f) = Best f limit
   Solved limit none-found = Below (suc limit)
   Solved limit too-crowded = (c : ℕ) × (c ≤ limit) × MoreThan A c capacity × Below c

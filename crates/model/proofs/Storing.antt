@@ -15,7 +15,7 @@ use Rattle.std.proofs.shelf.Lists.{take-at, ext-getD}
 use Rattle.std.proofs.shelf.Counted.{fill-by-all, getD-map-counting}
 use Rattle.model.specs.Automaton.{Automaton, Controller, WellFormed, CountIs, Row, no-row, controller}
 use Rattle.model.specs.Lists.{any, joined, In}
-use Rattle.model.specs.Positions.{Position, mark, Found, Search, found, none-found, too-crowded}
+use Rattle.model.specs.Positions.{Position, mark, Found, Solution, found, none-found, too-crowded}
 use Rattle.model.specs.Positions as Positions
 use Rattle.model.specs.File.{tally-byte, tallies, file}
 use Rattle.model.specs.File as File

@@ -174,13 +174,14 @@ found-in A c R =
     let met = states-met A R in
     record { count = c; rows = map (row-at A R met) met; positions = met }
 
-pub data Search : Type 0 where
-  found : Found → Search
-  none-found : Search
-  too-crowded : Search
+-- what solve comes to: a controller, none within the limit, or a Reach(c) with more positions than the capacity
+pub data Solution : Type 0 where
+  found : Found → Solution
+  none-found : Solution
+  too-crowded : Solution
 
 -- c, c + 1 and so on, as often as there are turns
-abbrev pub try-from : Automaton → ℕ → ℕ → ℕ → Search
+abbrev pub try-from : Automaton → ℕ → ℕ → ℕ → Solution
 try-from A capacity zero c = none-found
 try-from A capacity (suc turns) c =
     elim (reach A c capacity) [
@@ -191,5 +192,5 @@ try-from A capacity (suc turns) c =
     ]
 
 -- c = 0, 1, 2 up to the limit
-unfoldable pub solve : Automaton → ℕ → ℕ → Search
+unfoldable pub solve : Automaton → ℕ → ℕ → Solution
 solve A capacity limit = try-from A capacity (suc limit) 0

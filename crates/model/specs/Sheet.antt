@@ -11,7 +11,7 @@ use Rattle.model.specs.Automaton.{Automaton, Row, no-row}
 use Rattle.model.specs.Rules.{together}
 use Rattle.model.specs.Lists.{any}
 use Rattle.model.specs.Text.{Named, ReadRule, blank, filled, between, numbers-in-range}
-use Rattle.model.specs.Positions.{Position, same, Found, Search, found, none-found, too-crowded}
+use Rattle.model.specs.Positions.{Position, same, Found, Solution, found, none-found, too-crowded}
 use Rattle.model.specs.Positions as Positions
 use Rattle.std.specs.declared.result.Result.{Result}
 use Rattle.std.specs.declared.result.Result.the-variants.{Ok, Err}
@@ -177,7 +177,7 @@ abbrev pub row-in : Found → ℕ → Row
 row-in f state = getD (f .rows) state no-row
 
 -- solve always discards the stored controller first; what it finds is stored, in state 0
-abbrev pub solve-with : Sheet → Search → Outcome
+abbrev pub solve-with : Sheet → Solution → Outcome
 solve-with s (found f) = answers (with-stored s (some (record { found = f; current = 0 }))) (count (f .count) (length (f .rows)) (row-in f 0 .command))
 solve-with s none-found = answers (with-stored s none) (refused NoneFound)
 solve-with s too-crowded = answers (with-stored s none) (refused Crowded)
