@@ -1,0 +1,6 @@
+use borrow.Author.Needs.{needs}
+use Rattle.rules.proofs.More.{one-more}
+use Rattle.rules.proofs.lists.start_states.Needs as need
+
+pub loop-state-again : need.loop-state-again
+loop-state-again g c = search (needs, one-more)

@@ -1,0 +1,4 @@
+use Rattle.script.proofs.parse.+rule.Given as given
+
+abbrev pub μ-rule : given.MeasureT-rule
+μ-rule l = l .levels

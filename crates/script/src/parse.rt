@@ -1,0 +1,157 @@
+//! What a line of a script says.
+ghost use mathlib.Core.Path.{_≡_};
+ghost use Prim.Native.Nat.{_≤_};
+ghost use Rattle.script.specs.Grammar.{NumberAt, FreeNumbers, ReplyNumbers, Writes};
+ghost use Rattle.script.specs.Keywords.{Spells};
+ghost use Rattle.script.specs.Commands.{Says};
+ghost use Rattle.model.specs.Rules.{free, reply};
+ghost use Rattle.script.specs.Meaning.{meaning-of, depth};
+ghost use Rattle.script.specs.declared.parse.Fault.the-variants.{Line, Memory};
+ghost use Rattle.std.specs.Vec.{made};
+use crate::bad_line::BadLine;
+use crate::bad_line::BadLineDebug;
+use crate::rule::AnyRule;
+use crate::words::Words;
+use crate::words::number;
+use rules::Free;
+use rules::Reply;
+use std::alloc::AllocError;
+use std::alloc::Global;
+
+/// How deep pairs may stand inside one another. What goes down the pairs uses the stack at each level, so there is a limit. The text of
+/// `BadLine::TooDeep` has the same number.
+pub const MOST_LEVELS: u16 = 1000;
+
+/// What a line asks for.
+#[derive(Drop)]
+pub enum Command {
+    /// The line is blank or a comment.
+    Nothing,
+    Show(AnyRule),
+}
+
+/// Why a line gave no command.
+#[derive(Clone, Copy, Debug)]
+pub enum Fault {
+    Line(BadLine),
+    Memory,
+}
+
+pub impl From<BadLine> for Fault as FaultFromBadLine {
+    ghost converts = { λ reason r. r ≡ Line reason };
+
+    fn from(reason: BadLine) -> Fault {
+        Fault::Line(reason)
+    }
+}
+
+pub impl From<AllocError> for Fault as FaultFromAllocError {
+    ghost converts = { λ _ r. r ≡ Memory };
+
+    fn from(_error: AllocError) -> Fault {
+        Fault::Memory
+    }
+}
+
+// The number that the next word denotes.
+fn next_number(words: &mut Words<'_>) -> Result<u8, BadLine>
+    ensures same { λ _. ⌜ now (now (words .exit) .line) ≡ now (now (words .entry) .line) ⌝ }
+    ensures value { λ r. ⌜ made r (λ n. NumberAt (now (now (words .entry) .line)) (now (words .entry) .at) (now (words .exit) .at) n) ⌝ }
+{
+    match words.next() {
+        Some(word) => number(word),
+        None => Err(BadLine::NumberMissing),
+    }
+}
+
+// The words that the script language knows.
+#[derive(Clone, Copy)]
+enum Keyword {
+    Show,
+    Free,
+    Reply,
+    Pair,
+    Other,
+}
+
+// Which of them a word is.
+fn keyword_of(word: &[u8]) -> Keyword
+    ensures { λ r. ⌜ Spells (now (word .entry)) r ⌝ }
+{
+    match word {
+        b"show" => Keyword::Show,
+        b"free" => Keyword::Free,
+        b"reply" => Keyword::Reply,
+        b"pair" => Keyword::Pair,
+        _ => Keyword::Other,
+    }
+}
+
+// What stands after the word `free`.
+fn free_numbers(words: &mut Words<'_>) -> Result<Free, BadLine>
+    ensures same { λ _. ⌜ now (now (words .exit) .line) ≡ now (now (words .entry) .line) ⌝ }
+    ensures numbers { λ r. ⌜ made r (λ f. FreeNumbers (now (now (words .entry) .line)) (now (words .entry) .at) (now (words .exit) .at) (free (f .situations) (f .commands))) ⌝ }
+{
+    let situations = next_number(words)?;
+    let commands = next_number(words)?;
+    Ok(Free::new(situations, commands))
+}
+
+// What stands after the word `reply`.
+fn reply_numbers(words: &mut Words<'_>) -> Result<Reply, BadLine>
+    ensures same { λ _. ⌜ now (now (words .exit) .line) ≡ now (now (words .entry) .line) ⌝ }
+    ensures numbers { λ r. ⌜ made r (λ f. ReplyNumbers (now (now (words .entry) .line)) (now (words .entry) .at) (now (words .exit) .at) (reply (f .situations) (f .commands) (f .situation) (f .command))) ⌝ }
+{
+    let situations = next_number(words)?;
+    let commands = next_number(words)?;
+    let situation = next_number(words)?;
+    let command = next_number(words)?;
+    Ok(Reply::new(situations, commands, situation, command))
+}
+
+// The rule that the next words write, with pairs at most `levels` deep.
+fn rule(heap: Global, words: &mut Words<'_>, levels: u16) -> Result<AnyRule, Fault>
+    ensures same { λ _. ⌜ now (now (words .exit) .line) ≡ now (now (words .entry) .line) ⌝ }
+    ensures writes { λ r. ⌜ made r (λ a. Writes (now (now (words .entry) .line)) (now (words .entry) .at) (now (words .exit) .at) (meaning-of a)) ⌝ }
+    ensures shallow { λ r. ⌜ made r (λ a. depth a ≤ levels) ⌝ }
+{
+    let Some(word) = words.next() else {
+        return Err(Fault::Line(BadLine::RuleExpected));
+    };
+    match keyword_of(word) {
+        Keyword::Free => Ok(AnyRule::Free(free_numbers(words)?)),
+        Keyword::Reply => Ok(AnyRule::Reply(reply_numbers(words)?)),
+        Keyword::Pair => {
+            if levels == 0 {
+                return Err(Fault::Line(BadLine::TooDeep));
+            }
+            let first = rule(heap, words, levels - 1)?;
+            let second = rule(heap, words, levels - 1)?;
+            Ok(AnyRule::pair(heap, first, second)?)
+        }
+        Keyword::Show | Keyword::Other => Err(Fault::Line(BadLine::RuleExpected)),
+    }
+}
+
+/// What a line asks for.
+pub fn read_line(heap: Global, line: &[u8]) -> Result<Command, Fault>
+    ensures { λ r. ⌜ made r (λ c. Says (now (line .entry)) c) ⌝ }
+{
+    if let [b'#', ..] = line {
+        return Ok(Command::Nothing);
+    }
+    let mut words = Words::new(line);
+    let Some(word) = words.next() else {
+        return Ok(Command::Nothing);
+    };
+    match keyword_of(word) {
+        Keyword::Show => {
+            let shown = rule(heap, &mut words, MOST_LEVELS)?;
+            match words.next() {
+                None => Ok(Command::Show(shown)),
+                Some(_) => Err(Fault::Line(BadLine::TextAfter)),
+            }
+        }
+        _ => Err(Fault::Line(BadLine::UnknownWord)),
+    }
+}
