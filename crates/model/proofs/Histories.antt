@@ -19,7 +19,7 @@ use Rattle.model.specs.Positions.{Found, found, none-found, too-crowded, Solut
 use Rattle.model.specs.Positions as Positions
 use Rattle.model.specs.Sheet.{Sheet, Stored, opened, rule-list, rules, solve, Answer, count, refused, Outcome, row-in, solve-with, respond, answer, run}
 use Rattle.model.specs.File as File
-use Rattle.model.specs.History.{ForSheet, NoneOnSheet, OverCapacity, Solve-Least, After-Calls, Frame, given-by, frame-of, frames, last-given, Along, Frames-Within}
+use Rattle.model.specs.History.{ForSheet, NoneOnSheet, OverCapacity, SolveSays, least, none-there, too-many, Solve-Least, After-Calls}
 use Rattle.model.specs.History as History
 use Rattle.model.proofs.Paths.{bounded-is-finite}
 use Rattle.model.proofs.Solving.{Best, Below, Solved, solved}
@@ -47,40 +47,31 @@ module _ (s : Sheet) (h : Sound s) where
   pub solve-least : Solve-Least s
   solve-least = go (Positions.solve (rules s) (s .capacity) (s .limit)) refl (solved (rules s) (s .capacity) (s .limit))
     where
+      said : (x : Solution) → Positions.solve (rules s) (s .capacity) (s .limit) ≡ x → SolveSays s (solve-with s x .answer) → Solve-Least s
+      said x e w = subst (λ (o : Outcome). SolveSays s (o .answer)) (sym (solve-answer x e)) w
+
       go : (x : Solution) → Positions.solve (rules s) (s .capacity) (s .limit) ≡ x → Solved (rules s) (s .capacity) (s .limit) x → Solve-Least s
       go (found f) e b =
-          let r : respond s solve ≡ solve-with s (found f) = solve-answer (found f) e in
-          let a : answer s solve ≡ count (f .count) (length (f .rows)) (row-in f 0 .command) = ap (λ (o : Outcome). o .answer) r in
           let K : Controller = controller (f .rows) in
-          let over : CountIs (rule-list s) K (f .count) = agrees K (f .count) .2 .1 (b .exact) in (
-            inl (f .count, length (f .rows), row-in f 0 .command, a),
-            λ c m u k. (let ec : f .count ≡ c = cc in let em : length (f .rows) ≡ m = cc in let eu : row-in f 0 .command ≡ u = cc in (
-              omega (arith, ec, b .limited),
-              (λ n l m. b .roomy n (omega arith) m),
-              (
-                record { found = f; current = 0 },
-                ap (λ (o : Outcome). o .sheet .stored) r,
-                (for-sheet s h K (b .formed), em, eu, subst (λ n. CountIs (rule-list s) K n) ec over, no-cycle K (f .count) (over .most)),
-              ),
-              λ K n w most. omega (arith, ec, b .least K n (for-rules s h K w) (agrees K n .0 .0 most)),
-            )),
-            (λ k. (let z : _≡_ {A = ℕ} 0 1 = cc in absurd (omega arith))),
-            (λ k. (let z : _≡_ {A = ℕ} 0 1 = cc in absurd (omega arith))),
-          )
+          let over : CountIs (rule-list s) K (f .count) = agrees K (f .count) .2 .1 (b .exact) in
+          said (found f) e (least (f .count) (length (f .rows)) (row-in f 0 .command) record {
+            limited = b .limited;
+            roomy = λ n l m. b .roomy n l m;
+            stored = record { found = f; current = 0 };
+            is-stored = ap (λ (o : Outcome). o .sheet .stored) (solve-answer (found f) e);
+            formed = for-sheet s h K (b .formed);
+            size = refl;
+            start = refl;
+            own = over;
+            acyclic = no-cycle K (f .count) (over .most);
+            least = λ K n w most. b .least K n (for-rules s h K w) (agrees K n .0 .0 most);
+          })
       go none-found e below =
-          let a : answer s solve ≡ refused NoneFound = ap (λ (o : Outcome). o .answer) (solve-answer none-found e) in (
-            inr (inl a),
-            (λ c m u k. (let z : _≡_ {A = ℕ} 0 1 = cc in absurd (omega arith))),
-            (λ k. ((λ n l. below n (omega arith) .0), none-on (s .limit) (below (s .limit) (omega arith) .1))),
-            (λ k. (let z : _≡_ {A = ℕ} 0 1 = cc in absurd (omega arith))),
-          )
-      go too-crowded e (c, l, m, below) =
-          let a : answer s solve ≡ refused Crowded = ap (λ (o : Outcome). o .answer) (solve-answer too-crowded e) in (
-            inr (inr a),
-            (λ c m u k. (let z : _≡_ {A = ℕ} 0 1 = cc in absurd (omega arith))),
-            (λ k. (let z : _≡_ {A = ℕ} 0 1 = cc in absurd (omega arith))),
-            (λ k. (c, l, m, below-on c below)),
-          )
+          said none-found e (none-there record {
+            roomy = λ n l. below n (omega arith) .0;
+            above = none-on (s .limit) (below (s .limit) (omega arith) .1);
+          })
+      go too-crowded e (c, l, m, below) = said too-crowded e (too-many record { at = c; limited = l; crowded = m; before = below-on c below })
 
 pub solve-least-stands : After-Calls Solve-Least
 solve-least-stands house S C capacity e calls =

@@ -21,7 +21,7 @@ use Rattle.model.specs.File.{tally-byte, tallies, file}
 use Rattle.model.specs.File as File
 use Rattle.model.specs.Sheet.{Sheet, Stored, opened, rules, rule-list, with-stored, Call, write, check, accepted, wrote, Outcome, file-of, verdict, respond, answer, after, run}
 use Rattle.model.specs.SheetLaws.{stored-controller, in-next, Does, add-blank, add-unlike, add-taken, add-full, adds, withdraw-unknown, withdraws, limit-over, limits, finds, finds-none, crowds, frame-none, frame-large, moves, write-none, write-short, writes, checks}
-use Rattle.model.specs.History.{rows-of, FileOf, ForSheet, Stored-Best, Written-Accepted, After-Calls}
+use Rattle.model.specs.History.{rows-of, FileOf, ForSheet, Stored-Best, Written, Written-Accepted, After-Calls}
 use Rattle.model.specs.CountLaws.{Valid}
 use Rattle.model.proofs.Lists.{in-getD, joined-counting}
 use Rattle.model.proofs.Solving.{Best, Solved, solved}
@@ -102,15 +102,16 @@ stored-best : (s : Sheet) → Sound s → AllKept s → Stored-Best s
 stored-best s h all k e =
     let c : Kept s k = all k e in
     let K : Controller = controller (k .found .rows) in
-    let over : CountIs (rule-list s) K (k .found .count) = agrees s h K (k .found .count) .2 .1 (c .best .exact) in (
-      for-sheet s h K (c .best .formed),
-      c .inside,
-      c .best .limited,
-      c .best .described,
-      over,
-      no-cycle s h K (k .found .count) (over .most),
-      λ other n w most. c .best .least other n (for-rules s h other w) (agrees s h other n .0 .0 most),
-    )
+    let over : CountIs (rule-list s) K (k .found .count) = agrees s h K (k .found .count) .2 .1 (c .best .exact) in
+    record {
+      formed = for-sheet s h K (c .best .formed);
+      inside = c .inside;
+      limited = c .best .limited;
+      described = c .best .described;
+      own = over;
+      acyclic = no-cycle s h K (k .found .count) (over .most);
+      least = λ other n w most. c .best .least other n (for-rules s h other w) (agrees s h other n .0 .0 most);
+    }
 
 pub stored-stands : After-Calls Stored-Best
 stored-stands house S C capacity e calls =
@@ -194,26 +195,22 @@ module _ (s : Sheet) (h : Sound s) (k : Stored) (c : Kept s k) where
 written : (s : Sheet) → Sound s → AllKept s → Written-Accepted s
 written s h all buffer held n e = go (does s (h .looked) (write buffer)) e
   where
-    Accepted : Type 0
-    Accepted =
-        (k : Stored) × (s .stored ≡ some k) × FileOf (rules s) (controller (k .found .rows)) (k .found .count) (take n held)
-        × (answer s (check (take n held)) ≡ accepted (k .found .count)) × (n ≤ length buffer) × (held ≡ take n held ++ drop n buffer)
-
-    go : {o : Outcome} → Does s (write buffer) o → o .answer ≡ wrote n held → Accepted
+    go : {o : Outcome} → Does s (write buffer) o → o .answer ≡ wrote n held → Written s buffer held n
     go (write-none b g) a = let z : _≡_ {A = ℕ} 0 1 = cc in absurd (omega arith)
     go (write-short b k g l) a = let z : _≡_ {A = ℕ} 0 1 = cc in absurd (omega arith)
     go (writes b k g l) a =
         let bytes : List ℕ = file-of s (k .found) in
         let en : length bytes ≡ n = cc in
         let eh : bytes ++ drop (length bytes) buffer ≡ held = cc in
-        let et : take n held ≡ bytes = ap (take n) (sym eh) ∙ take-at bytes (drop (length bytes) buffer) n en in (
-          k,
-          g,
-          subst (FileOf (rules s) (controller (k .found .rows)) (k .found .count)) (sym et) (file-is s h k (all k g)),
-          subst (λ b. answer s (check b) ≡ accepted (k .found .count)) (sym et) (file-checks s h k (all k g)),
-          omega (arith, en, l),
-          sym eh ∙ subst₂ (λ b m. bytes ++ drop (length bytes) buffer ≡ b ++ drop m buffer) (sym et) en refl,
-        )
+        let et : take n held ≡ bytes = ap (take n) (sym eh) ∙ take-at bytes (drop (length bytes) buffer) n en in
+        record {
+          stored = k;
+          is-stored = g;
+          file-of = subst (FileOf (rules s) (controller (k .found .rows)) (k .found .count)) (sym et) (file-is s h k (all k g));
+          accepted = subst (λ b. answer s (check b) ≡ accepted (k .found .count)) (sym et) (file-checks s h k (all k g));
+          within = omega (arith, en, l);
+          later = sym eh ∙ subst₂ (λ b m. bytes ++ drop (length bytes) buffer ≡ b ++ drop m buffer) (sym et) en refl;
+        }
 
 pub written-stands : After-Calls Written-Accepted
 written-stands house S C capacity e calls =

@@ -16,6 +16,7 @@ use Rattle.model.specs.Positions.{MoreThan, Described}
 use Rattle.model.specs.File.{file}
 use Rattle.model.specs.declared.refusal.Refusal.{Refusal}
 use Rattle.model.specs.declared.refusal.Refusal.the-variants.{NoneFound, Crowded}
+use Rattle.model.specs.SheetLaws.{stored-controller}
 use Rattle.model.specs.Sheet.{Sheet, same-name, look, opened, with-stored, rule-list, rules, Call, add, withdraw, limit, solve, frame, write, check, Answer, done, count, command, wrote, accepted, refused, Stored, answer, after, run, replies}
 
 -- the states of a controller, written out
@@ -57,22 +58,42 @@ NoneOnSheet s c = (K : Controller) → ForSheet s K → CountAbove (rule-list s)
 abbrev pub OverCapacity : Sheet → ℕ → Type 0
 OverCapacity s c = MoreThan (rules s) c (s .capacity)
 
--- Solve answers a count, none, or crowded. If it is called now and gives a count, it is at most the limit, and no c up to it was
--- crowded; it is the count of the controller that solve stores, with so many states and that start command, which has no reachable
--- cycle through a rejecting state; and no finite controller has a lower one. If none, no c up to the limit was crowded, and every
--- finite controller counts above the limit. If crowded, some c up to the limit was, and no lower c was that or had a controller
+-- If solve, called now, gives the count c, with m states and the start command u: c is at most the limit, and no c up to it is
+-- crowded; it is the count of the controller that is stored then, which has no reachable cycle through a rejecting state; and no
+-- finite controller, of any size, has a lower one
+pub record GivesCount (s : Sheet) (c m u : ℕ) : Type 0 where
+  pub limited : c ≤ s .limit
+  pub roomy : (n : ℕ) → n ≤ c → OverCapacity s n → ⊥
+  pub stored : Stored
+  pub is-stored : after s solve .stored ≡ some stored
+  pub formed : ForSheet s (stored-controller stored)
+  pub size : stored-controller stored .size ≡ m
+  pub start : stored-controller stored .command 0 ≡ u
+  pub own : CountIs (rule-list s) (stored-controller stored) c
+  pub acyclic : NoRejectingCycle (rule-list s) (stored-controller stored)
+  pub least : (K : Controller) (n : ℕ) → ForSheet s K → CountAtMost (rule-list s) K n → c ≤ n
+
+-- if it gives none: no c up to the limit is crowded, and every finite controller's count is above the limit
+pub record GivesNone (s : Sheet) : Type 0 where
+  pub roomy : (n : ℕ) → n ≤ s .limit → OverCapacity s n → ⊥
+  pub above : NoneOnSheet s (s .limit)
+
+-- if it gives crowded: some c up to the limit is crowded, and at no lower one Reach is, or any controller's count is as low
+pub record GivesCrowded (s : Sheet) : Type 0 where
+  pub at : ℕ
+  pub limited : at ≤ s .limit
+  pub crowded : OverCapacity s at
+  pub before : (n : ℕ) → n < at → (OverCapacity s n → ⊥) × NoneOnSheet s n
+
+-- what each answer of solve says
+pub data SolveSays (s : Sheet) : Answer → Type 0 where
+  least : (c m u : ℕ) → GivesCount s c m u → SolveSays s (count c m u)
+  none-there : GivesNone s → SolveSays s (refused NoneFound)
+  too-many : GivesCrowded s → SolveSays s (refused Crowded)
+
+-- what solve answers, called now, is so
 abbrev pub Solve-Least : Sheet → Type 0
-Solve-Least s =
-    (((c : ℕ) × (m : ℕ) × (u : ℕ) × (answer s solve ≡ count c m u)) ⊎ ((answer s solve ≡ refused NoneFound) ⊎ (answer s solve ≡ refused Crowded)))
-    × ((c m u : ℕ) → answer s solve ≡ count c m u
-    → (c ≤ s .limit) × ((n : ℕ) → n ≤ c → OverCapacity s n → ⊥)
-    × ((k : Stored) × (after s solve .stored ≡ some k)
-    × (let K = controller (k .found .rows) in
-    ForSheet s K × (K .size ≡ m) × (K .command 0 ≡ u) × CountIs (rule-list s) K c × NoRejectingCycle (rule-list s) K))
-    × ((K : Controller) (n : ℕ) → ForSheet s K → CountAtMost (rule-list s) K n → c ≤ n))
-    × (answer s solve ≡ refused NoneFound → ((n : ℕ) → n ≤ s .limit → OverCapacity s n → ⊥) × NoneOnSheet s (s .limit))
-    × (answer s solve ≡ refused Crowded
-    → (c : ℕ) × (c ≤ s .limit) × OverCapacity s c × ((n : ℕ) → n < c → (OverCapacity s n → ⊥) × NoneOnSheet s n))
+Solve-Least s = SolveSays s (answer s solve)
 
 -- an accepted frame: its situation, and the command that it gave
 pub record Frame : Type 0 where
@@ -137,26 +158,33 @@ After-Calls Law =
 abbrev pub Frames-Stay : Sheet → Type 0
 Frames-Stay s = (later : List Call) → Frames-Within s later
 
--- Whenever a controller is stored, it is for the sheet, and in one of its states; its states are the positions stored with it; its
--- count over the rules that are on the sheet now is the stored one, at most the limit; it has no reachable cycle through a
--- rejecting state, and no finite controller has a lower count
-abbrev pub Stored-Best : Sheet → Type 0
-Stored-Best s =
-    (k : Stored) → s .stored ≡ some k
-    → let K = controller (k .found .rows) in
-    ForSheet s K × (k .current < K .size) × (k .found .count ≤ s .limit)
-    × Described (rules s) (k .found .count) K (k .found .positions)
-    × CountIs (rule-list s) K (k .found .count) × NoRejectingCycle (rule-list s) K
-    × ((other : Controller) (n : ℕ) → ForSheet s other → CountAtMost (rule-list s) other n → k .found .count ≤ n)
+-- A stored controller is for the sheet, and in one of its states; its states are the positions stored with it; its count over the rules
+-- that are on the sheet now is the stored one, at most the limit; it has no reachable cycle through a rejecting state, and no finite
+-- controller has a lower count
+pub record Best (s : Sheet) (k : Stored) : Type 0 where
+  pub formed : ForSheet s (stored-controller k)
+  pub inside : k .current < stored-controller k .size
+  pub limited : k .found .count ≤ s .limit
+  pub described : Described (rules s) (k .found .count) (stored-controller k) (k .found .positions)
+  pub own : CountIs (rule-list s) (stored-controller k) (k .found .count)
+  pub acyclic : NoRejectingCycle (rule-list s) (stored-controller k)
+  pub least : (K : Controller) (n : ℕ) → ForSheet s K → CountAtMost (rule-list s) K n → k .found .count ≤ n
 
--- What write puts down is a file of the stored controller with its count, and check accepts it; later bytes are left
+abbrev pub Stored-Best : Sheet → Type 0
+Stored-Best s = (k : Stored) → s .stored ≡ some k → Best s k
+
+-- What write puts down, n bytes at the start of a buffer that then holds `held`, is a file of the stored controller with its count, and
+-- check accepts it; later bytes are left
+pub record Written (s : Sheet) (buffer held : List ℕ) (n : ℕ) : Type 0 where
+  pub stored : Stored
+  pub is-stored : s .stored ≡ some stored
+  pub file-of : FileOf (rules s) (stored-controller stored) (stored .found .count) (take n held)
+  pub accepted : answer s (check (take n held)) ≡ accepted (stored .found .count)
+  pub within : n ≤ length buffer
+  pub later : held ≡ take n held ++ drop n buffer
+
 abbrev pub Written-Accepted : Sheet → Type 0
-Written-Accepted s =
-    (buffer held : List ℕ) (n : ℕ) → answer s (write buffer) ≡ wrote n held
-    → (k : Stored) × (s .stored ≡ some k)
-    × FileOf (rules s) (controller (k .found .rows)) (k .found .count) (take n held)
-    × (answer s (check (take n held)) ≡ accepted (k .found .count))
-    × (n ≤ length buffer) × (held ≡ take n held ++ drop n buffer)
+Written-Accepted s = (buffer held : List ℕ) (n : ℕ) → answer s (write buffer) ≡ wrote n held → Written s buffer held n
 
 -- whatever bytes check accepts are a file of some controller for the sheet, with the number that it answers, which bounds its count
 abbrev pub Accepted-Is-File : Sheet → Type 0
