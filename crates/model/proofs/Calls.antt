@@ -1,25 +1,25 @@
 -- Each call has exactly the outcome that its sentence gives.
-use Prim.Native.Nat.{ℕ, zero, suc, _+_, _≤_, _<_}
+use Prim.Native.Nat.{ℕ, _+_, _≤_, _<_}
 use mathlib.Core.Path.{_≡_, refl, sym, ap, subst, _∙_}
 use mathlib.Core.Bool.{Bool, true, false, not, _&&_}
-use mathlib.Core.List.{List, [], _∷_, _++_, map}
+use mathlib.Core.List.{List, [], _∷_, _++_}
 use mathlib.Core.Logic.{_⊎_, inl, inr, _↔_}
 use mathlib.Core.Option.{Option, none, some}
 use native.Mathlib.Omega.{arith}
 use lib.Dec.{eqb, leb, ltb}
-use lib.ListN.{length, getD, drop}
+use lib.ListN.{length}
 use Rattle.std.specs.Runs.{kept-by}
 use Rattle.std.specs.Orderings.{Decides}
-use Rattle.std.proofs.shelf.Tests.{cases-bool, cases-lt, and-parts, and-from, eqb-true, eq-eqb, leb-true, leb-false, le-leb, lt-leb, ltb-true, ltb-false, lt-ltb, le-ltb, not-true, not-from-true, not-from-false, both-ways}
-use Rattle.std.proofs.shelf.Ways.{tells, decides-and, decides-like, decides-eqb}
+use Rattle.std.proofs.shelf.Tests.{cases-bool, cases-lt, and-parts, and-from, eqb-true, eq-eqb, leb-true, leb-false, le-leb, lt-leb, ltb-true, ltb-false, lt-ltb, le-ltb, not-from-true, not-from-false, both-ways}
+use Rattle.std.proofs.shelf.Ways.{tells, decides-and, decides-eqb}
 use Rattle.model.specs.declared.refusal.Refusal.{Refusal}
-use Rattle.model.specs.declared.refusal.Refusal.the-variants.{OutOfRange, HouseRule, UnlikeRule, NameTaken, NoRoom, NoSuchName, OverLimit, NoneFound, Crowded, NoController, NoSituation, ShortBuffer}
+use Rattle.model.specs.declared.refusal.Refusal.the-variants.{OutOfRange, HouseRule, UnlikeRule, NameTaken, NoRoom, NoSuchName, OverLimit, NoSituation, ShortBuffer}
 use Rattle.model.specs.Lists.{any, In}
 use Rattle.model.specs.Automaton.{Automaton}
 use Rattle.model.specs.Text.{Named, ReadRule, blank, filled, between, numbers-in-range}
 use Rattle.model.specs.Positions.{same, Solution, found, none-found, too-crowded}
 use Rattle.model.specs.Positions as Positions
-use Rattle.model.specs.Sheet.{Sheet, Stored, look, looked, rules, with-added, with-limit, with-stored, Call, add, withdraw, limit, solve, frame, write, check, Answer, done, count, command, wrote, refused, Outcome, answers, small, same-name, row-in, add-to, withdraw-from, limit-on, solve-with, moved, current-command, frame-with, write-with, file-of, overwritten, on-good-sheet, respond}
+use Rattle.model.specs.Sheet.{Sheet, Stored, look, looked, rules, with-added, with-limit, with-stored, Call, add, withdraw, limit, solve, frame, write, check, done, command, wrote, refused, Outcome, answers, small, same-name, add-to, withdraw-from, limit-on, solve-with, moved, current-command, frame-with, write-with, file-of, overwritten, on-good-sheet, respond}
 use Rattle.model.specs.SheetLaws.{SameLetter, SameName, Names-Exact, InRange, FitsSheet, Look-Exact, Like, HasName, HasRoom, Others, end, drops, keeps, Does, add-blank, add-unlike, add-taken, add-full, adds, withdraw-unknown, withdraws, limit-over, limits, finds, finds-none, crowds, frame-none, frame-large, moves, write-none, write-short, writes, checks, Calls-Exact}
 use Rattle.model.proofs.Lists.{decides-any}
 

@@ -1,37 +1,37 @@
 -- Check accepts a file of a controller just where its certificate is valid; so some file is accepted just where the count is at most c.
-use Prim.Native.Nat.{ℕ, zero, suc, _+_, _-_, _*_, _≤_, _<_}
-use mathlib.Core.Path.{_≡_, refl, sym, ap, subst, subst₂, _∙_}
-use mathlib.Core.Bool.{Bool, true, false, cond, not, _&&_, _||_}
+use Prim.Native.Nat.{ℕ, zero, suc, _+_, _*_, _≤_, _<_}
+use mathlib.Core.Path.{_≡_, refl, sym, ap, subst, _∙_}
+use mathlib.Core.Bool.{Bool, true, false, _&&_}
 use mathlib.Core.List.{List, [], _∷_, _++_, map}
-use mathlib.Core.Logic.{_⊎_, inl, inr, _↔_}
+use mathlib.Core.Logic.{_⊎_, inl, inr}
 use mathlib.Core.Option.{Option, none, some}
 use native.Mathlib.Omega.{arith}
-use lib.Dec.{eqb, leb, ltb}
-use lib.ListN.{length, getD, length-map}
+use lib.Dec.{eqb, ltb}
+use lib.ListN.{length, getD}
 use Rattle.std.specs.Iters.{counting}
-use Rattle.std.proofs.shelf.Tests.{cases-bool, cases-lt, both-ways, lt-ltb, le-ltb, ltb-true, ltb-false, and-parts, and-from, and-right, and-left, ne-eqb, true≢false}
+use Rattle.std.proofs.shelf.Tests.{cases-bool, cases-lt, lt-ltb, le-ltb, ltb-false, and-from, and-right, and-left, ne-eqb}
 use Rattle.std.proofs.shelf.Lists.{getD-map}
 use Rattle.std.proofs.shelf.Counted.{getD-map-counting, length-map-counting, length-counting}
-use Rattle.std.proofs.shelf.Ways.{decides-ltb, decides-and}
-use Rattle.model.specs.Automaton.{Automaton, weight, Starts, Follows, Controller, WellFormed, Path, AtMost, CountAtMost, NoRejectingCycle, Row, no-row, controller}
-use Rattle.model.specs.Lists.{every, any, first, joined, In}
-use Rattle.model.specs.Positions.{Position, mark}
+use Rattle.std.proofs.shelf.Ways.{decides-ltb}
+use Rattle.model.specs.Automaton.{Automaton, weight, Follows, Controller, WellFormed, AtMost, CountAtMost, Row, no-row, controller}
+use Rattle.model.specs.Lists.{every, first, joined, In}
+use Rattle.model.specs.Positions.{mark}
 use Rattle.model.specs.File.{tally-byte, byte-mark, trailer, file, pieces, Window, good-row, mark-in, bad-byte, bad-start, bad-arrow, place, byte-places, start-places, arrow-places, first-broken, look-through}
 use Rattle.std.specs.declared.result.Result.{Result}
 use Rattle.std.specs.declared.result.Result.the-variants.{Ok as accepts, Err as refuses}
 use Rattle.model.specs.declared.refusal.Place.{Place}
 use Rattle.model.specs.declared.refusal.Refusal.{Refusal}
-use Rattle.model.specs.declared.refusal.Refusal.the-variants.{Trailer, OtherSheet, Layout, Record, Certificate}
+use Rattle.model.specs.declared.refusal.Refusal.the-variants.{Record, Certificate}
 use Rattle.model.specs.File as File
 use Rattle.model.specs.Sheet.{Sheet, rule-list, rules, check, accepted, Outcome, verdict, respond, answer, opened, run}
-use Rattle.model.specs.History.{rows-of, FileOf, ForSheet, Accepts, Check-Exact, After-Calls}
+use Rattle.model.specs.History.{rows-of, ForSheet, Accepts, Check-Exact, After-Calls}
 use Rattle.model.specs.CountLaws.{Marking, Valid}
 use Rattle.model.proofs.Lists.{in-map, map-in, in-joined, joined-in, in-counting, counting-in, decides-every}
 use Rattle.model.proofs.Paths.{certificate-sound}
 use Rattle.model.proofs.Tallies.{certificate-exact}
-use Rattle.model.proofs.Tables.{Agree, moved, formed, back}
-use Rattle.model.proofs.Files.{Plain, pieces-joined, joined-length, window, file-reads}
-use Rattle.model.proofs.Sheets.{of-rule, Sound, opened-sound, run-sound, for-rules, for-is}
+use Rattle.model.proofs.Tables.{Agree, moved, formed}
+use Rattle.model.proofs.Files.{Plain, pieces-joined, joined-length, file-reads}
+use Rattle.model.proofs.Sheets.{Sound, opened-sound, run-sound, for-rules, for-is}
 use Rattle.model.proofs.Calls.{respond-is}
 use Rattle.model.proofs.Histories.{agrees, no-cycle}
 

@@ -1,13 +1,13 @@
 -- A path with more rejecting pairs than the run graph has pairs goes around a cycle. So a controller has a count, or such a cycle.
 use Prim.Native.Nat.{ℕ, zero, suc, _+_, _*_, _≤_, _<_}
-use mathlib.Core.Path.{_≡_, refl, sym, ap, subst, subst₂, _∙_}
-use mathlib.Core.Bool.{Bool, true, false, cond}
+use mathlib.Core.Path.{_≡_, refl, sym, subst, subst₂}
+use mathlib.Core.Bool.{true, false}
 use mathlib.Core.Logic.{_⊎_, inl, inr}
 use native.Mathlib.Omega.{arith}
 use Rattle.std.proofs.shelf.Tests.{cases-lt, cases-bool}
-use Rattle.model.specs.Automaton.{Automaton, Controller, weight, Starts, Follows, WellFormed, Path, begin, onward, AtMost, Exceeds, HasCount, Trail, arrow, further, RejectingCycle}
+use Rattle.model.specs.Automaton.{Automaton, Controller, weight, Follows, WellFormed, Path, begin, onward, AtMost, Exceeds, HasCount, Trail, arrow, further, RejectingCycle}
 use Rattle.model.proofs.Finite.{sum, sum-le, sum-lt, sum-bound}
-use Rattle.model.proofs.Paths.{path-inside, bounded-is-finite}
+use Rattle.model.proofs.Paths.{path-inside}
 use Rattle.model.proofs.Tallies.{raise, raise-cases, raise-here, count-decided}
 
 module _ (A : Automaton) (K : Controller) where

@@ -1,26 +1,23 @@
 -- A file of a controller is read back whole.
-use Prim.Native.Nat.{ℕ, zero, suc, _+_, _-_, _*_, _/_, _%_, _≤_, _<_}
-use mathlib.Core.Path.{_≡_, refl, sym, ap, subst, subst₂, _∙_}
-use mathlib.Core.Bool.{Bool, true, false, cond, not, _&&_, _||_}
+use Prim.Native.Nat.{ℕ, _+_, _-_, _*_, _≤_, _<_}
+use mathlib.Core.Path.{_≡_, refl, sym, ap, subst₂, _∙_}
+use mathlib.Core.Bool.{true, false, _&&_}
 use mathlib.Core.List.{List, [], _∷_, _++_, map, append-assoc, append-nil}
-use mathlib.Core.Logic.{_⊎_, inl, inr, _↔_}
-use mathlib.Core.Option.{Option, none, some}
+use mathlib.Core.Logic.{inl, inr}
 use native.Mathlib.Omega.{arith}
 use native.Mathlib.Nat.{mul-le-mul}
-use lib.Dec.{eqb, leb, ltb}
+use lib.Dec.{eqb, leb}
 use lib.ListN.{length, getD, take, drop, length-append}
-use Rattle.std.specs.Iters.{counting}
-use Rattle.std.proofs.shelf.Tests.{cases-bool, cases-lt, both-ways, leb-true, le-leb, eq-eqb, eqb-true, and-parts, and-from}
+use Rattle.std.proofs.shelf.Tests.{le-leb, eq-eqb, and-from}
 use Rattle.std.proofs.shelf.Lists.{drop-at, take-at}
-use Rattle.model.specs.Automaton.{Automaton, weight, Row}
-use Rattle.model.specs.Lists.{every, any, first, joined, In}
-use Rattle.model.specs.Positions.{Position, same}
+use Rattle.model.specs.Automaton.{Automaton, Row}
+use Rattle.model.specs.Lists.{joined, In}
+use Rattle.model.specs.Positions.{same}
 use Rattle.model.specs.File.{bytes-of, number-of, record-bytes, byte-mark, file-mark, records-size, certificate-size, trailer, file, pieces, row-of, Window, piece, look-through, check}
 use Rattle.std.specs.declared.result.Result.{Result}
-use Rattle.std.specs.declared.result.Result.the-variants.{Ok as accepts, Err as refuses}
-use Rattle.model.specs.declared.refusal.Place.{Place}
+use Rattle.std.specs.declared.result.Result.the-variants.{Err as refuses}
 use Rattle.model.specs.declared.refusal.Refusal.{Refusal}
-use Rattle.model.specs.declared.refusal.Refusal.the-variants.{Trailer, OtherSheet, Layout, Record, Certificate}
+use Rattle.model.specs.declared.refusal.Refusal.the-variants.{Trailer, OtherSheet, Layout}
 
 pub joined-length : {X : Type 0} (f : X → List ℕ) (size : ℕ) (L : List X) → ((x : X) → In L x → length (f x) ≡ size) → length (joined f L) ≡ length L * size
 joined-length f size [] h = omega arith

@@ -1,26 +1,25 @@
 -- The controller found in a safe part that holds the start: its positions are its certificate.
-use Prim.Native.Nat.{ℕ, zero, suc, _+_, _-_, _*_, _≤_, _<_}
+use Prim.Native.Nat.{ℕ, zero, suc, _+_, _≤_, _<_}
 use mathlib.Core.Path.{_≡_, refl, sym, ap, subst, _∙_}
-use mathlib.Core.Bool.{Bool, true, false, cond, _&&_, _||_}
+use mathlib.Core.Bool.{Bool, true, false}
 use mathlib.Core.List.{List, [], _∷_, _++_, map}
 use mathlib.Core.Logic.{_⊎_, inl, inr, _↔_}
 use mathlib.Core.Option.{Option, none, some}
 use native.Mathlib.Omega.{arith}
-use lib.Dec.{eqb, leb}
 use lib.ListN.{length, getD, take, drop, length-map, length-append, List·getD-append}
 use lib.Seq.{split-at, length-take-le, getD-append-seam, getD-take}
 use Rattle.std.specs.Iters.{counting}
-use Rattle.std.proofs.shelf.Tests.{cases-bool, cases-lt, cases-eq, both-ways, true≢false}
+use Rattle.std.proofs.shelf.Tests.{cases-bool, cases-eq, both-ways}
 use Rattle.std.proofs.shelf.Lists.{getD-map}
 use Rattle.std.proofs.shelf.Counted.{getD-map-counting, length-map-counting}
-use Rattle.model.specs.Automaton.{Automaton, weight, Starts, Follows, Controller, WellFormed, Path, begin, onward, AtMost, Row, no-row, controller}
-use Rattle.model.specs.Search.{place, fresh, reached-from}
-use Rattle.model.specs.Lists.{every, any, joined, In, Distinct}
-use Rattle.model.specs.Positions.{LooksBefore, NumberedAsMet, Position, mark, start-position, step, Fits, same, Reach, steps, holds, safe-part, lowest, command-at, states-met, row-at, Found, found-in, InSafe, Described}
+use Rattle.model.specs.Automaton.{Automaton, weight, Controller, WellFormed, Path, begin, onward, AtMost, Row, no-row, controller}
+use Rattle.model.specs.Search.{place, reached-from}
+use Rattle.model.specs.Lists.{In}
+use Rattle.model.specs.Positions.{LooksBefore, NumberedAsMet, Position, mark, start-position, step, same, Reach, steps, holds, safe-part, lowest, command-at, states-met, row-at, found-in, InSafe, Described}
 use Rattle.model.specs.SearchLaws.{Leads, here, further, MetBehind}
 use Rattle.model.specs.CountLaws.{Valid}
 use Rattle.model.proofs.Lists.{map-in, in-counting, counting-in, decides-same, in-getD, pigeons, place-in, in-index, one-place}
-use Rattle.model.proofs.Searches.{Listed, Over, Result, searched}
+use Rattle.model.proofs.Searches.{Listed, Result, searched}
 use Rattle.model.proofs.Reaching.{in-steps, steps-in, decides-holds, part-in, part-kept, part-fits, part-safe, part-largest, reach-length}
 use Rattle.model.proofs.Runs.{start-has, step-carries}
 

@@ -1,28 +1,23 @@
 -- No path along the frames since a solve counts above what it gave.
-use Prim.Native.Nat.{ℕ, zero, suc, _+_, _-_, _*_, _≤_, _<_}
-use mathlib.Core.Path.{_≡_, refl, sym, ap, subst, subst₂, _∙_}
-use mathlib.Core.Bool.{Bool, true, false, cond, not, _&&_, _||_}
-use mathlib.Core.List.{List, [], _∷_, _++_, map, append-assoc}
-use mathlib.Core.Logic.{_⊎_, inl, inr, _↔_}
+use Prim.Native.Nat.{ℕ, _+_, _≤_}
+use mathlib.Core.Path.{_≡_, refl, sym, ap, subst}
+use mathlib.Core.List.{List, [], _∷_, _++_, append-assoc}
+use mathlib.Core.Logic.{_⊎_, inl, inr}
 use mathlib.Core.Option.{Option, none, some}
 use native.Mathlib.Omega.{arith}
-use lib.ListN.{length, getD}
-use Rattle.model.specs.Automaton.{Automaton, weight, Starts, Follows, Controller, WellFormedFor, WellFormed, Path, AtMost, Exceeds, HasCount, CountAtMost, CountAbove, CountIs, NoRejectingCycle, controller}
-use Rattle.model.specs.Rules.{together}
-use Rattle.model.specs.Lists.{any, In}
-use Rattle.model.specs.declared.refusal.Refusal.{Refusal}
+use lib.ListN.{length}
+use Rattle.model.specs.Automaton.{Automaton, weight, Follows, Controller, Path, controller}
+use Rattle.model.specs.Lists.{In}
 use Rattle.model.specs.declared.refusal.Refusal.the-variants.{NoneFound, Crowded}
-use Rattle.model.specs.Positions.{Found, found, none-found, too-crowded, Solution, MoreThan}
+use Rattle.model.specs.Positions.{Found, found, none-found, too-crowded, Solution}
 use Rattle.model.specs.Positions as Positions
-use Rattle.model.specs.Sheet.{Sheet, Stored, opened, rule-list, rules, with-stored, Call, solve, frame, Answer, count, command, refused, Outcome, answers, row-in, solve-with, respond, answer, after, run, replies}
+use Rattle.model.specs.Sheet.{Sheet, Stored, opened, rules, with-stored, Call, solve, frame, count, command, refused, Outcome, answers, row-in, solve-with, respond, answer, after, run, replies}
 use Rattle.model.specs.SheetLaws.{stored-controller, in-next, Does, add-blank, add-unlike, add-taken, add-full, adds, withdraw-unknown, withdraws, limit-over, limits, finds, finds-none, crowds, frame-none, frame-large, moves, write-none, write-short, writes, checks}
 use Rattle.model.specs.File as File
-use Rattle.model.specs.History.{ForSheet, NoneOnSheet, OverCapacity, Solve-Least, After-Calls, Frame, given-by, frame-of, frames, last-given, Along, Frames-Within, Frames-Stay}
+use Rattle.model.specs.History.{After-Calls, Frame, frame-of, frames, last-given, Along, Frames-Within, Frames-Stay}
 use Rattle.model.specs.History as History
 use Rattle.model.specs.Automaton as Automata
-use Rattle.model.proofs.Paths.{bounded-is-finite}
-use Rattle.model.proofs.Solving.{Best, Below, Solved, solved}
-use Rattle.model.proofs.Sides.{together-agrees}
+use Rattle.model.proofs.Solving.{Solved, solved}
 use Rattle.model.proofs.Calls.{does}
 use Rattle.model.proofs.Sheets.{Sound, opened-sound, run-sound, after-sound}
 use Rattle.model.proofs.Histories.{agrees, solve-answer}

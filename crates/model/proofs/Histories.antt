@@ -1,28 +1,19 @@
 -- Solve gives the least count, and no path along frames passes it, whatever was called before and after.
-use Prim.Native.Nat.{ℕ, zero, suc, _+_, _-_, _*_, _≤_, _<_}
-use mathlib.Core.Path.{_≡_, refl, sym, ap, subst, subst₂, _∙_}
-use mathlib.Core.Bool.{Bool, true, false, cond, not, _&&_, _||_}
-use mathlib.Core.List.{List, [], _∷_, _++_, map, append-assoc}
-use mathlib.Core.Logic.{_⊎_, inl, inr, _↔_}
-use mathlib.Core.Option.{Option, none, some}
+use Prim.Native.Nat.{ℕ, _<_}
+use mathlib.Core.Path.{_≡_, refl, sym, ap, subst, _∙_}
+use mathlib.Core.List.{map}
+use mathlib.Core.Logic.{_↔_}
 use native.Mathlib.Omega.{arith}
-use lib.Dec.{eqb, leb, ltb}
-use lib.ListN.{length, getD}
-use Rattle.std.specs.Runs.{kept-by}
-use Rattle.std.proofs.shelf.Tests.{cases-bool, cases-lt, both-ways, leb-true, eqb-true, and-parts}
-use Rattle.model.specs.Automaton.{Automaton, weight, Starts, Follows, Controller, WellFormedFor, WellFormed, Path, begin, onward, AtMost, Exceeds, HasCount, CountAtMost, CountAbove, CountIs, NoRejectingCycle, controller}
-use Rattle.model.specs.Rules.{together}
-use Rattle.model.specs.Lists.{any, In}
-use Rattle.model.specs.declared.refusal.Refusal.{Refusal}
-use Rattle.model.specs.declared.refusal.Refusal.the-variants.{NoneFound, Crowded}
-use Rattle.model.specs.Positions.{Found, found, none-found, too-crowded, Solution, MoreThan}
+use lib.ListN.{length}
+use Rattle.model.specs.Automaton.{Controller, AtMost, Exceeds, HasCount, CountAtMost, CountAbove, CountIs, NoRejectingCycle, controller}
+use Rattle.model.specs.Positions.{found, none-found, too-crowded, Solution}
 use Rattle.model.specs.Positions as Positions
-use Rattle.model.specs.Sheet.{Sheet, Stored, opened, rule-list, rules, solve, Answer, count, refused, Outcome, row-in, solve-with, respond, answer, run}
+use Rattle.model.specs.Sheet.{Sheet, opened, rule-list, rules, solve, count, Outcome, row-in, solve-with, respond, answer, run}
 use Rattle.model.specs.File as File
-use Rattle.model.specs.History.{ForSheet, NoneOnSheet, OverCapacity, SolveSays, least, none-there, too-many, Solve-Least, After-Calls}
+use Rattle.model.specs.History.{NoneOnSheet, OverCapacity, SolveSays, least, none-there, too-many, Solve-Least, After-Calls}
 use Rattle.model.specs.History as History
 use Rattle.model.proofs.Paths.{bounded-is-finite}
-use Rattle.model.proofs.Solving.{Best, Below, Solved, solved}
+use Rattle.model.proofs.Solving.{Below, Solved, solved}
 use Rattle.model.proofs.Sides.{together-agrees}
 use Rattle.model.proofs.Calls.{respond-is}
 use Rattle.model.proofs.Sheets.{of-rule, Sound, opened-sound, run-sound, for-sheet, for-rules}

@@ -1,19 +1,19 @@
 -- What is in a list, and what tests on lists decide.
-use Prim.Native.Nat.{ℕ, zero, suc, _+_, _-_, _*_, _≤_, _<_}
+use Prim.Native.Nat.{ℕ, zero, suc, _+_, _≤_, _<_}
 use mathlib.Core.Path.{_≡_, refl, sym, ap, subst, _∙_}
-use mathlib.Core.Bool.{Bool, true, false, cond, _&&_, _||_}
+use mathlib.Core.Bool.{Bool, true, false}
 use mathlib.Core.List.{List, [], _∷_, _++_, map, append-assoc}
 use mathlib.Core.Logic.{_⊎_, inl, inr}
 use native.Mathlib.Omega.{arith}
-use lib.Dec.{eqb, leb}
+use lib.Dec.{eqb}
 use lib.ListN.{length, getD, length-append}
 use Rattle.std.specs.Iters.{counting}
 use Rattle.std.specs.Runs.{kept-by}
 use Rattle.std.specs.Orderings.{Decides}
-use Rattle.std.proofs.shelf.Tests.{cases-bool, cases-lt, cases-eq, true≢false, both-ways}
-use Rattle.std.proofs.shelf.Ways.{tells, decides-like, decides-and, decides-or, decides-eqb}
-use Rattle.model.specs.Search.{place, fresh}
-use Rattle.model.specs.Lists.{every, any, first, joined, In, Distinct}
+use Rattle.std.proofs.shelf.Tests.{cases-bool, cases-eq, true≢false, both-ways}
+use Rattle.std.proofs.shelf.Ways.{decides-eqb}
+use Rattle.model.specs.Search.{place}
+use Rattle.model.specs.Lists.{every, any, joined, In, Distinct}
 use Rattle.model.specs.Positions.{same}
 
 pub in-left : {X : Type 0} (L M : List X) (x : X) → In L x → In (L ++ M) x

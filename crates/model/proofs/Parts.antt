@@ -1,16 +1,15 @@
 -- Two rules side by side: what each part answers.
-use Prim.Native.Nat.{ℕ, zero, suc, _+_, _-_, _≤_, _<_, min}
+use Prim.Native.Nat.{ℕ, zero, suc, _+_, _-_, _≤_, _<_}
 use mathlib.Core.Path.{_≡_, refl, sym, ap, subst, subst₂, _∙_}
-use mathlib.Core.Bool.{Bool, true, false, cond, not, _&&_, _||_}
+use mathlib.Core.Bool.{Bool, true, false, not, _&&_}
 use mathlib.Core.List.{List, [], _∷_, _++_}
 use mathlib.Core.Logic.{_⊎_, inl, inr, _↔_}
 use native.Mathlib.Omega.{arith}
 use lib.Dec.{eqb, ltb}
 use lib.ListN.{length, length-append}
 use Rattle.std.proofs.shelf.Tests.{cases-bool, cases-lt, lt-ltb, le-ltb, eqb-true, eq-eqb, not-true, not-from-false, true≢false}
-use Rattle.std.proofs.shelf.Ways.{tells}
 use Rattle.model.specs.Automaton.{Automaton}
-use Rattle.model.specs.Rules.{nearest, free, reply, beside, pair, together}
+use Rattle.model.specs.Rules.{reply, beside, together}
 use Rattle.model.specs.RuleLaws.{Nearest-Exact, Free-Exact, Reply-Exact, PartAt, Pair-Exact, total-states, Together-Counts-On}
 
 module _ (A B : Automaton) where

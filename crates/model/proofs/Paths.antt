@@ -1,11 +1,11 @@
 -- Paths and certificates: a valid certificate bounds every path; a bound leaves no rejecting cycle, and bounds endless paths.
 use Prim.Native.Nat.{ℕ, zero, suc, _+_, _≤_, _<_}
-use mathlib.Core.Path.{_≡_, refl, sym, ap, subst}
-use mathlib.Core.Bool.{Bool, true, false, cond}
+use mathlib.Core.Path.{_≡_, sym, subst}
+use mathlib.Core.Bool.{true}
 use native.Mathlib.Omega.{arith}
 use native.Mathlib.Nat.{add-assoc}
 use native.Mathlib.Numerals.{add-one}
-use Rattle.model.specs.Automaton.{Automaton, Controller, weight, Starts, Follows, WellFormed, Path, begin, onward, AtMost, Trail, arrow, further, RejectingCycle}
+use Rattle.model.specs.Automaton.{Automaton, Controller, weight, Follows, WellFormed, Path, begin, onward, Trail, arrow, further, RejectingCycle}
 use Rattle.model.specs.Automaton.{Endless}
 use Rattle.model.specs.CountLaws.{Marking, Valid}
 use Rattle.model.specs.CountLaws.{visits}

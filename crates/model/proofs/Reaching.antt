@@ -1,25 +1,25 @@
 -- Reach(c) is listed, and the safe part of it is the largest safe set.
-use Prim.Native.Nat.{ℕ, zero, suc, _+_, _-_, _*_, _≤_, _<_}
-use mathlib.Core.Path.{_≡_, refl, sym, ap, subst, _∙_}
-use mathlib.Core.Bool.{Bool, true, false, cond, _&&_, _||_}
-use mathlib.Core.List.{List, [], _∷_, _++_, map}
+use Prim.Native.Nat.{ℕ, zero, suc, _+_, _≤_, _<_}
+use mathlib.Core.Path.{_≡_, sym, ap, subst, _∙_}
+use mathlib.Core.Bool.{true, false}
+use mathlib.Core.List.{List, [], _∷_}
 use mathlib.Core.Logic.{_⊎_, inl, inr, _↔_}
 use mathlib.Core.Option.{Option, none, some}
 use native.Mathlib.Omega.{arith}
 use lib.Dec.{eqb, leb}
-use lib.ListN.{length, getD, length-append}
+use lib.ListN.{length, length-append}
 use Rattle.std.specs.Iters.{counting}
 use Rattle.std.specs.Runs.{kept-by}
 use Rattle.std.specs.Orderings.{Decides}
-use Rattle.std.proofs.shelf.Tests.{cases-bool, cases-lt, both-ways, leb-true, le-leb, eqb-true, eqb-false, true≢false}
-use Rattle.std.proofs.shelf.Ways.{decides-like, decides-eqb}
-use Rattle.model.specs.Automaton.{Automaton, weight}
+use Rattle.std.proofs.shelf.Tests.{cases-bool, both-ways, leb-true, le-leb, eqb-true, eqb-false}
+use Rattle.std.proofs.shelf.Ways.{decides-like}
+use Rattle.model.specs.Automaton.{Automaton}
 use Rattle.model.specs.Search.{reached-from}
-use Rattle.model.specs.Lists.{every, any, joined, In, Distinct}
-use Rattle.model.specs.Positions.{successors, Position, mark, start-position, step, Fits, fits, same, Reach, at-start, by-step, MoreThan, Holds, Safe, steps, reach, member, holds, kept, pruned, safe-part, lowest}
+use Rattle.model.specs.Lists.{joined, In, Distinct}
+use Rattle.model.specs.Positions.{successors, Position, mark, start-position, step, Fits, fits, same, Reach, at-start, by-step, MoreThan, Safe, steps, reach, member, holds, kept, pruned, safe-part}
 use Rattle.model.specs.SearchLaws.{InMeetingOrder, Leads, here, further, Reach-Exact, Safe-Part-Largest}
 use Rattle.model.proofs.Lists.{in-map, map-in, in-joined, joined-in, in-counting, counting-in, in-kept-by, kept-by-in, kept-by-turn, decides-any, decides-every, decides-same, in-getD}
-use Rattle.model.proofs.Searches.{search-exact, decides-met, Listed, Over, Result, searched}
+use Rattle.model.proofs.Searches.{decides-met, Result, searched}
 use Rattle.model.proofs.Runs.{start-length, step-length}
 
 -- tests

@@ -1,13 +1,13 @@
 -- A refusal alters nothing but what solve discards; a sheet that the look refuses stays as it is.
 use Prim.Native.Nat.{ℕ}
-use mathlib.Core.Path.{_≡_, refl, sym, ap, subst, _∙_}
+use mathlib.Core.Path.{_≡_, refl, ap, subst, _∙_}
 use mathlib.Core.List.{List, [], _∷_}
 use mathlib.Core.Logic.{_⊎_, inl, inr}
 use mathlib.Core.Option.{Option, none, some}
 use native.Mathlib.Omega.{arith}
 use Rattle.model.specs.declared.refusal.Refusal.{Refusal}
 use Rattle.model.specs.Lists.{In}
-use Rattle.model.specs.Sheet.{Sheet, looked, opened, with-stored, Call, solve, Answer, refused, Outcome, respond, answer, after, run, replies}
+use Rattle.model.specs.Sheet.{Sheet, looked, opened, with-stored, Call, solve, Answer, refused, Outcome, answer, after, run, replies}
 use Rattle.model.specs.SheetLaws.{Does, add-blank, add-unlike, add-taken, add-full, adds, withdraw-unknown, withdraws, limit-over, limits, finds, finds-none, crowds, frame-none, frame-large, moves, write-none, write-short, writes, checks, Refused-Sheet, Refusals-Keep}
 use Rattle.model.proofs.Calls.{does, refused-is}
 

@@ -1,21 +1,17 @@
 -- The laws of the start position and of a step, and positions along the runs of a controller.
-use Prim.Native.Nat.{ℕ, zero, suc, _+_, _*_, _-_, _≤_, _<_, max}
-use mathlib.Core.Path.{_≡_, refl, sym, ap, subst, subst₂, subst₃, _∙_}
-use mathlib.Core.Bool.{Bool, true, false, cond, _&&_}
-use mathlib.Core.List.{List, [], _∷_, map}
+use Prim.Native.Nat.{ℕ, zero, suc, _+_, _-_, _≤_, _<_, max}
+use mathlib.Core.Path.{_≡_, refl, ap, subst, _∙_}
+use mathlib.Core.Bool.{true, cond}
 use mathlib.Core.Logic.{_⊎_, inl, inr}
 use native.Mathlib.Omega.{arith}
-use lib.Dec.{eqb, ltb}
-use lib.ListN.{length, getD, List·getD-eq-default}
-use Rattle.std.specs.Iters.{counting}
+use lib.ListN.{length, List·getD-eq-default}
 use Rattle.std.proofs.shelf.Counted.{getD-map-counting, length-map-counting}
 use Rattle.std.proofs.shelf.Tests.{cases-lt}
 use Rattle.std.proofs.shelf.Ways.{tells}
-use Rattle.model.specs.Automaton.{Automaton, Controller, weight, Starts, Follows, WellFormed, Path, begin, onward, AtMost, Exceeds}
-use Rattle.model.specs.Positions.{Position, mark, largest, first-mark, start-position, handed, step, Fits, Reach, at-start, by-step, Holds, Safe}
+use Rattle.model.specs.Automaton.{Automaton, Controller, weight, Starts, WellFormed, Path, begin, onward, AtMost}
+use Rattle.model.specs.Positions.{Position, mark, largest, first-mark, start-position, handed, step, Fits, Reach, at-start, by-step, Safe}
 use Rattle.model.proofs.Theory.{Run, from-start, then, RunsTo}
 use Rattle.model.proofs.Theory.{Runs-Tally, Runs-Safe}
-use Rattle.model.proofs.Paths.{path-inside}
 
 largest-upper : (f : ℕ → ℕ) (n i : ℕ) → i < n → f i ≤ largest f n
 largest-upper f zero i h = absurd (omega arith)

@@ -1,18 +1,18 @@
 -- The search lists what a first node leads to, each node once, in the order of meeting; or that is more than there is room for.
-use Prim.Native.Nat.{ℕ, zero, suc, _+_, _-_, _*_, _≤_, _<_}
+use Prim.Native.Nat.{ℕ, zero, suc, _+_, _≤_, _<_}
 use mathlib.Core.Path.{_≡_, refl, sym, ap, subst, _∙_}
-use mathlib.Core.Bool.{Bool, true, false, cond, _&&_, _||_}
-use mathlib.Core.List.{List, [], _∷_, _++_, map, append-assoc, append-nil}
+use mathlib.Core.Bool.{Bool, true, false}
+use mathlib.Core.List.{List, [], _∷_, _++_, append-assoc}
 use mathlib.Core.Logic.{_⊎_, inl, inr, _↔_}
 use mathlib.Core.Option.{Option, none, some}
 use native.Mathlib.Omega.{arith}
-use lib.Dec.{eqb, leb}
-use lib.ListN.{length, getD, length-append}
+use lib.Dec.{leb}
+use lib.ListN.{length, length-append}
 use Rattle.std.specs.Orderings.{Decides}
-use Rattle.std.proofs.shelf.Tests.{cases-bool, cases-lt, both-ways, leb-true, leb-false, true≢false}
-use Rattle.std.proofs.shelf.Ways.{decides-like, same-from-decides}
+use Rattle.std.proofs.shelf.Tests.{cases-bool, both-ways, leb-true, leb-false}
+use Rattle.std.proofs.shelf.Ways.{decides-like}
 use Rattle.model.specs.Search.{fresh, explore, reached-from}
-use Rattle.model.specs.Lists.{any, joined, In, Distinct}
+use Rattle.model.specs.Lists.{any, In, Distinct}
 use Rattle.model.specs.SearchLaws.{Leads, here, further, MetBehind, InMeetingOrder, Search-Exact}
 use Rattle.model.proofs.Lists.{in-left, in-right, in-append, decides-any, distinct-append}
 

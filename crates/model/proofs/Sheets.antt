@@ -1,17 +1,16 @@
 -- What every sheet has after any calls: a look that refuses nothing, rules for its situations and commands, at most 16 states.
-use Prim.Native.Nat.{ℕ, _+_, _≤_, _<_}
-use mathlib.Core.Path.{_≡_, refl, sym, ap, subst, subst₂, _∙_}
+use Prim.Native.Nat.{ℕ, _+_, _≤_}
+use mathlib.Core.Path.{_≡_, refl, sym, ap, subst, subst₂}
 use mathlib.Core.List.{List, [], _∷_, _++_, map}
 use mathlib.Core.Logic.{_⊎_, inl, inr}
 use mathlib.Core.Option.{Option, none, some}
 use native.Mathlib.Omega.{arith}
 use Rattle.model.specs.Lists.{In}
 use Rattle.model.specs.Automaton.{Automaton, Controller, WellFormedFor, WellFormed}
-use Rattle.model.specs.Rules.{together}
 use Rattle.model.specs.RuleLaws.{total-states}
 use Rattle.model.specs.CountLaws.{RulesFor}
 use Rattle.model.specs.Text.{Named}
-use Rattle.model.specs.Sheet.{Sheet, Stored, look, looked, opened, rule-list, rules, with-added, with-limit, with-stored, Call, Outcome, respond, after, run}
+use Rattle.model.specs.Sheet.{Sheet, Stored, look, looked, opened, rule-list, rules, with-added, with-limit, with-stored, Call, Outcome, after, run}
 use Rattle.model.specs.SheetLaws.{InRange, HasRoom, Others, end, drops, keeps, Does, add-blank, add-unlike, add-taken, add-full, adds, withdraw-unknown, withdraws, limit-over, limits, finds, finds-none, crowds, frame-none, frame-large, moves, write-none, write-short, writes, checks}
 use Rattle.model.specs.History.{ForSheet, Rules-Fit, After-Calls}
 use Rattle.model.proofs.Lists.{in-append, in-map, map-in}

@@ -1,14 +1,13 @@
 -- Rules side by side have the paths of each, and no others.
-use Prim.Native.Nat.{ℕ, zero, suc, _+_, _-_, _*_, _≤_, _<_, min}
+use Prim.Native.Nat.{ℕ, _+_, _-_, _≤_, _<_}
 use mathlib.Core.Path.{_≡_, refl, sym, ap, subst, subst₂, _∙_}
-use mathlib.Core.Bool.{Bool, true, false, cond, not, _&&_, _||_}
-use mathlib.Core.List.{List, [], _∷_, _++_, map}
-use mathlib.Core.Logic.{_⊎_, inl, inr, _↔_}
+use mathlib.Core.Bool.{true, cond, not}
+use mathlib.Core.List.{List, [], _∷_}
+use mathlib.Core.Logic.{_⊎_, inl, inr}
 use native.Mathlib.Omega.{arith}
-use lib.Dec.{eqb, ltb}
-use lib.ListN.{length}
-use Rattle.std.proofs.shelf.Tests.{cases-bool, cases-lt, lt-ltb, le-ltb, ltb-true, ltb-false, and-parts, and-from, not-true, not-from-false, true≢false}
-use Rattle.model.specs.Automaton.{Automaton, weight, Starts, Follows, Controller, Path, begin, onward, AtMost, Exceeds, HasCount, CountAtMost, CountAbove, CountIs}
+use lib.Dec.{ltb}
+use Rattle.std.proofs.shelf.Tests.{cases-lt, lt-ltb, le-ltb, ltb-true, ltb-false, and-parts, and-from, not-true, not-from-false}
+use Rattle.model.specs.Automaton.{Automaton, weight, Starts, Follows, Controller, Path, begin, onward, AtMost, Exceeds, CountAtMost, CountAbove}
 use Rattle.model.specs.Rules.{beside, together}
 use Rattle.model.specs.Lists.{In}
 use Rattle.model.proofs.Parts.{left-start, left-reject, left-follows, right-start, right-reject, right-follows}

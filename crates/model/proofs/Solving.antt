@@ -1,15 +1,15 @@
 -- Solve, over one automaton: the count found is the least of any controller; none is found, or the search is crowded, only where that is so.
-use Prim.Native.Nat.{ℕ, zero, suc, _+_, _-_, _*_, _≤_, _<_}
-use mathlib.Core.Path.{_≡_, refl, sym, ap, subst, _∙_}
-use mathlib.Core.Bool.{Bool, true, false}
-use mathlib.Core.List.{List, [], _∷_}
+use Prim.Native.Nat.{ℕ, zero, suc, _+_, _≤_, _<_}
+use mathlib.Core.Path.{_≡_, refl, sym, subst}
+use mathlib.Core.Bool.{true, false}
+use mathlib.Core.List.{List, []}
 use mathlib.Core.Logic.{_⊎_, inl, inr, _↔_}
 use mathlib.Core.Option.{Option, none, some}
 use native.Mathlib.Omega.{arith}
 use lib.ListN.{length, getD}
 use Rattle.std.proofs.shelf.Tests.{cases-bool, cases-lt, cases-eq, both-ways}
 use Rattle.model.specs.Automaton.{Automaton, Row, Controller, WellFormed, Path, AtMost, Exceeds, HasCount, controller}
-use Rattle.model.specs.Lists.{In, Distinct}
+use Rattle.model.specs.Lists.{In}
 use Rattle.model.specs.Positions.{Position, mark, start-position, Fits, Reach, MoreThan, Safe, reach, member, safe-part, Found, found-in, Described, Solution, found, none-found, too-crowded, try-from, solve}
 use Rattle.model.specs.History.{NoneWithin}
 use Rattle.model.specs.CountLaws.{Valid}

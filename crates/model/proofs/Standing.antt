@@ -1,5 +1,5 @@
 -- The added rules on a sheet are those of the adds accepted, each until a withdraw of its name is accepted.
-use Prim.Native.Nat.{ℕ, zero, suc, _+_, _≤_, _<_}
+use Prim.Native.Nat.{ℕ, suc}
 use mathlib.Core.Path.{_≡_, refl, sym, ap, subst, _∙_}
 use mathlib.Core.List.{List, [], _∷_, _++_}
 use mathlib.Core.Logic.{_⊎_, inl, inr, _↔_}
@@ -8,8 +8,8 @@ use native.Mathlib.Omega.{arith}
 use lib.ListN.{length}
 use Rattle.model.specs.declared.refusal.Refusal.{Refusal}
 use Rattle.model.specs.Lists.{In}
-use Rattle.model.specs.Text.{Named, ReadRule, blank, filled}
-use Rattle.model.specs.Sheet.{Sheet, looked, opened, Call, add, withdraw, Answer, done, refused, Outcome, answers, respond, answer, after, run}
+use Rattle.model.specs.Text.{Named, ReadRule, filled}
+use Rattle.model.specs.Sheet.{Sheet, looked, opened, Call, add, withdraw, done, refused, Outcome, answers, respond, answer, after, run}
 use Rattle.model.specs.SheetLaws.{SameName, Others, Does, add-blank, add-unlike, add-taken, add-full, adds, withdraw-unknown, withdraws, limit-over, limits, finds, finds-none, crowds, frame-none, frame-large, moves, write-none, write-short, writes, checks, Standing, Rules-Stand}
 use Rattle.model.proofs.Lists.{in-left, in-right, in-append}
 use Rattle.model.proofs.Calls.{others-in, in-others, does, refused-is}

@@ -1,32 +1,27 @@
 -- Whenever a controller is stored, it is the best for the rules on the sheet, and the file that write puts down is accepted.
-use Prim.Native.Nat.{ℕ, zero, suc, _+_, _-_, _*_, _≤_, _<_}
+use Prim.Native.Nat.{ℕ, _≤_, _<_}
 use mathlib.Core.Path.{_≡_, refl, sym, ap, subst, subst₂, _∙_}
-use mathlib.Core.Bool.{Bool, true, false, cond, not, _&&_, _||_}
 use mathlib.Core.List.{List, [], _∷_, _++_, map, map-map}
-use mathlib.Core.Logic.{_⊎_, inl, inr, _↔_}
 use mathlib.Core.Option.{Option, none, some}
 use native.Mathlib.Omega.{arith}
-use lib.Dec.{eqb, leb, ltb}
 use lib.ListN.{length, getD, take, drop}
 use Rattle.std.specs.Iters.{counting}
-use Rattle.std.specs.Runs.{kept-by}
-use Rattle.std.proofs.shelf.Tests.{cases-bool, both-ways, ltb-true, leb-true}
 use Rattle.std.proofs.shelf.Lists.{take-at, ext-getD}
 use Rattle.std.proofs.shelf.Counted.{fill-by-all, getD-map-counting}
 use Rattle.model.specs.Automaton.{Automaton, Controller, WellFormed, CountIs, Row, no-row, controller}
-use Rattle.model.specs.Lists.{any, joined, In}
-use Rattle.model.specs.Positions.{Position, mark, Found, Solution, found, none-found, too-crowded}
+use Rattle.model.specs.Lists.{joined}
+use Rattle.model.specs.Positions.{Position, mark, Found, found}
 use Rattle.model.specs.Positions as Positions
 use Rattle.model.specs.File.{tally-byte, tallies, file}
 use Rattle.model.specs.File as File
 use Rattle.model.specs.Sheet.{Sheet, Stored, opened, rules, rule-list, with-stored, Call, write, check, accepted, wrote, Outcome, file-of, verdict, respond, answer, after, run}
-use Rattle.model.specs.SheetLaws.{stored-controller, in-next, Does, add-blank, add-unlike, add-taken, add-full, adds, withdraw-unknown, withdraws, limit-over, limits, finds, finds-none, crowds, frame-none, frame-large, moves, write-none, write-short, writes, checks}
-use Rattle.model.specs.History.{rows-of, FileOf, ForSheet, Stored-Best, Written, Written-Accepted, After-Calls}
+use Rattle.model.specs.SheetLaws.{in-next, Does, add-blank, add-unlike, add-taken, add-full, adds, withdraw-unknown, withdraws, limit-over, limits, finds, finds-none, crowds, frame-none, frame-large, moves, write-none, write-short, writes, checks}
+use Rattle.model.specs.History.{rows-of, FileOf, Stored-Best, Written, Written-Accepted, After-Calls}
 use Rattle.model.specs.CountLaws.{Valid}
 use Rattle.model.proofs.Lists.{in-getD, joined-counting}
 use Rattle.model.proofs.Solving.{Best, Solved, solved}
 use Rattle.model.proofs.Calls.{does, respond-is}
-use Rattle.model.proofs.Sheets.{Sound, opened-sound, run-sound, after-sound, for-sheet, for-rules, for-is}
+use Rattle.model.proofs.Sheets.{Sound, opened-sound, run-sound, after-sound, for-sheet, for-rules}
 use Rattle.model.proofs.Histories.{agrees, no-cycle}
 use Rattle.model.proofs.Checking.{rows-long, cert, cert-long, cert-bytes, win-accepted, reads}
 

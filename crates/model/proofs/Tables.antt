@@ -1,13 +1,8 @@
 -- A controller and its table have the same paths.
-use Prim.Native.Nat.{ℕ, zero, suc, _+_, _≤_, _<_}
-use mathlib.Core.Path.{_≡_, refl, sym, ap, subst, _∙_}
-use mathlib.Core.Bool.{true}
-use mathlib.Core.List.{List, [], _∷_, map}
+use Prim.Native.Nat.{ℕ, _+_, _<_}
+use mathlib.Core.Path.{_≡_, sym, subst}
 use native.Mathlib.Omega.{arith}
-use lib.ListN.{length, getD}
-use Rattle.std.specs.Iters.{counting}
-use Rattle.std.proofs.shelf.Counted.{getD-map-counting, length-map-counting}
-use Rattle.model.specs.Automaton.{Automaton, Controller, weight, Starts, Follows, WellFormed, Path, begin, onward}
+use Rattle.model.specs.Automaton.{Automaton, Controller, weight, Follows, WellFormed, Path, begin, onward}
 use Rattle.model.proofs.Paths.{path-inside}
 
 -- K′ does what K does, below K's size

@@ -1,13 +1,13 @@
 -- Each controller and each c have a valid certificate, or a path whose count is over c: raise marks along arrows, until no arrow is broken.
 use Prim.Native.Nat.{ℕ, zero, suc, _+_, _*_, _-_, _≤_, _<_}
-use mathlib.Core.Path.{_≡_, refl, sym, ap, subst, subst₂, subst₃, _∙_}
-use mathlib.Core.Bool.{Bool, true, false, cond, _&&_}
+use mathlib.Core.Path.{_≡_, refl, sym, subst₂, subst₃, _∙_}
+use mathlib.Core.Bool.{true, false, cond, _&&_}
 use mathlib.Core.Logic.{_⊎_, inl, inr}
 use native.Mathlib.Omega.{arith}
 use lib.Dec.{eqb}
 use Rattle.std.proofs.shelf.Ways.{tells}
 use Rattle.std.proofs.shelf.Tests.{cases-lt, cases-bool}
-use Rattle.model.specs.Automaton.{Automaton, Controller, weight, Starts, Follows, WellFormed, Path, begin, onward, AtMost, Exceeds}
+use Rattle.model.specs.Automaton.{Automaton, Controller, weight, WellFormed, Path, begin, onward, AtMost, Exceeds}
 use Rattle.model.specs.CountLaws.{Marking, Valid}
 use Rattle.model.proofs.Theory.{Certificate-Exact, Count-Decided}
 use Rattle.model.proofs.Paths.{certificate-sound}

@@ -1,10 +1,8 @@
 -- What is proved of one automaton on the way to the laws: certificates, counts, and the runs of a controller through positions.
-use Prim.Native.Nat.{ℕ, zero, suc, _+_, _*_, _≤_, _<_}
+use Prim.Native.Nat.{ℕ, _+_, _≤_, _<_}
 use mathlib.Core.Path.{_≡_}
 use mathlib.Core.Logic.{_⊎_, _↔_}
-use mathlib.Core.List.{List, [], _∷_}
-use lib.ListN.{length, getD}
-use Rattle.model.specs.Automaton.{Automaton, Controller, weight, Starts, Follows, WellFormed, Path, AtMost, Exceeds, HasCount, Endless, RejectingCycle}
+use Rattle.model.specs.Automaton.{Automaton, Controller, WellFormed, Path, AtMost, Exceeds, Endless, RejectingCycle}
 use Rattle.model.specs.CountLaws.{Marking, Valid, visits}
 use Rattle.model.specs.Positions.{Position, mark, start-position, step, Fits, Reach, Safe}
 

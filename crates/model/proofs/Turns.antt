@@ -1,18 +1,16 @@
 -- The start and the step are what their sentences say, and tallies are the counts of paths along any turns.
 use Prim.Native.Nat.{ℕ, zero, suc, _+_, _-_, _≤_, _<_}
-use mathlib.Core.Path.{_≡_, refl, sym, ap, subst, subst₂, _∙_}
-use mathlib.Core.Bool.{true}
+use mathlib.Core.Path.{_≡_, refl, sym, subst, _∙_}
 use mathlib.Core.List.{List, [], _∷_, _++_, append-assoc, append-nil}
 use mathlib.Core.Logic.{_⊎_, inl, inr}
 use native.Mathlib.Omega.{arith}
-use lib.ListN.{length, getD, List·getD-eq-default}
+use lib.ListN.{length, List·getD-eq-default}
 use Rattle.std.proofs.shelf.Tests.{cases-lt}
 use Rattle.std.proofs.shelf.Lists.{ext-getD}
 use Rattle.model.specs.Lists.{In}
-use Rattle.model.specs.Automaton.{Automaton, weight, Starts, Follows}
+use Rattle.model.specs.Automaton.{Automaton, weight, Starts}
 use Rattle.model.specs.Positions.{Position, mark, start-position, step}
 use Rattle.model.specs.PositionLaws.{Tally, IsStart, IsStep, Steps-Exact, Turn, position-from, PathAlong, begin, onward, Tallies-Exact}
-use Rattle.model.proofs.Lists.{in-left, in-right}
 use Rattle.model.proofs.Runs.{start-length, start-has, start-from, step-length, step-carries, step-from}
 
 -- THE START AND THE STEP

@@ -1,32 +1,30 @@
 -- Whatever bytes check accepts are a file of a controller for the sheet.
 use Prim.Native.Nat.{ℕ, zero, suc, _+_, _-_, _*_, _/_, _%_, _≤_, _<_}
-use mathlib.Core.Path.{_≡_, refl, sym, ap, subst, subst₂, _∙_}
-use mathlib.Core.Bool.{Bool, true, false, cond, not, _&&_, _||_}
+use mathlib.Core.Path.{_≡_, refl, sym, ap, subst, _∙_}
+use mathlib.Core.Bool.{Bool, true, false, _&&_}
 use mathlib.Core.List.{List, [], _∷_, _++_, map, append-assoc}
-use mathlib.Core.Logic.{_⊎_, inl, inr, _↔_}
+use mathlib.Core.Logic.{_⊎_, inl, inr}
 use mathlib.Core.Option.{Option, none, some}
 use native.Mathlib.Omega.{arith}
 use lib.Dec.{eqb, leb, ltb}
 use lib.ListN.{length, getD, take, drop, length-map, length-drop, take-append-drop}
 use Rattle.std.specs.Iters.{counting}
-use Rattle.std.proofs.shelf.Tests.{cases-bool, both-ways, leb-true, ltb-true, eqb-true, and-parts}
+use Rattle.std.proofs.shelf.Tests.{cases-bool, leb-true, ltb-true, eqb-true, and-parts}
 use Rattle.std.proofs.shelf.Lists.{length-take-le, drop-drop, drop-more, ext-getD}
 use Rattle.std.proofs.shelf.Counted.{fill-by-all, getD-map-counting}
 use Rattle.std.proofs.shelf.Ways.{decides-ltb}
-use Rattle.model.specs.Automaton.{Automaton, Controller, WellFormed, CountAtMost, Row, no-row, controller}
+use Rattle.model.specs.Automaton.{Automaton, Controller, WellFormed, Row, no-row, controller}
 use Rattle.model.specs.Lists.{every, joined, In}
-use Rattle.model.specs.Positions.{Position, same}
+use Rattle.model.specs.Positions.{same}
 use Rattle.model.specs.File.{bytes-of, number-of, record-bytes, file-mark, records-size, certificate-size, trailer, file, pieces, row-of, Window, piece, good-row, first-broken, look-through}
-use Rattle.std.specs.declared.result.Result.{Result}
 use Rattle.std.specs.declared.result.Result.the-variants.{Ok as accepts, Err as refuses}
 use Rattle.model.specs.declared.refusal.Place.{Place}
-use Rattle.model.specs.declared.refusal.Refusal.{Refusal}
 use Rattle.model.specs.declared.refusal.Refusal.the-variants.{Trailer, OtherSheet, Layout, Record, Certificate}
 use Rattle.model.specs.File as File
-use Rattle.model.specs.Sheet.{Sheet, rule-list, rules, check, accepted, Outcome, verdict, respond, answer, opened, run}
+use Rattle.model.specs.Sheet.{Sheet, rules, check, Outcome, verdict, respond, answer, opened, run}
 use Rattle.model.specs.History.{rows-of, FileOf, ForSheet, Accepted-Is-File, After-Calls}
 use Rattle.model.proofs.Lists.{in-left, in-right, map-in, in-getD, decides-every, decides-same}
-use Rattle.model.proofs.Files.{window-at, check-parts, check-end}
+use Rattle.model.proofs.Files.{window-at, check-parts}
 use Rattle.model.proofs.Checking.{rows-long, verdict-accepts, check-exact}
 use Rattle.model.proofs.Sheets.{Sound, opened-sound, run-sound, for-sheet}
 use Rattle.model.proofs.Calls.{respond-is}

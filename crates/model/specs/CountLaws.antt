@@ -1,7 +1,7 @@
 -- What holds of counts: certificates bound them, and a bounded count leaves no reachable cycle through a rejecting state.
 use Prim.Native.Nat.{ℕ, zero, suc, _+_, _≤_, _<_}
 use mathlib.Core.Path.{_≡_}
-use mathlib.Core.List.{List, [], _∷_}
+use mathlib.Core.List.{List, _∷_}
 use mathlib.Core.Logic.{_⊎_, _↔_}
 use Rattle.model.specs.Lists.{In}
 use Rattle.model.specs.Automaton.{Automaton, weight, Starts, Follows, Controller, WellFormedFor, AtMost, Exceeds, HasCount, Endless, RejectingCycle, CountAtMost, CountAbove, CountIs, CountAboveAll, NoRejectingCycle}

@@ -1,7 +1,6 @@
 -- The controller file: what write puts down, and what check makes of any bytes.
-use Prim.Native.Nat.{ℕ, zero, suc, _+_, _-_, _*_, _/_, _%_, _^_, _≤_, _<_}
-use mathlib.Core.Path.{_≡_}
-use mathlib.Core.Bool.{Bool, true, false, cond, not, _&&_, _||_}
+use Prim.Native.Nat.{ℕ, zero, suc, _+_, _-_, _*_, _/_, _%_}
+use mathlib.Core.Bool.{Bool, true, false, _&&_}
 use mathlib.Core.List.{List, [], _∷_, _++_, map}
 use mathlib.Core.Option.{Option, none, some}
 use lib.ListN.{length, getD, take, drop}
@@ -12,8 +11,8 @@ use Rattle.std.specs.declared.result.Result.the-variants.{Ok as accepts, Err as
 use Rattle.model.specs.declared.refusal.Place.{Place}
 use Rattle.model.specs.declared.refusal.Refusal.{Refusal}
 use Rattle.model.specs.declared.refusal.Refusal.the-variants.{Trailer, OtherSheet, Layout, Record, Certificate}
-use Rattle.model.specs.Automaton.{Automaton, weight, Controller, Row, no-row, controller}
-use Rattle.model.specs.Lists.{every, any, first, joined}
+use Rattle.model.specs.Automaton.{Automaton, weight, Row, no-row}
+use Rattle.model.specs.Lists.{every, first, joined}
 use Rattle.model.specs.Positions.{Position, same, mark}
 
 -- n bytes of a number, the lowest first; and the number of such bytes

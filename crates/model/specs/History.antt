@@ -1,23 +1,19 @@
 -- What holds of a sheet through its whole history.
 use Prim.Native.Nat.{ℕ, _+_, _*_, _≤_, _<_}
 use mathlib.Core.Path.{_≡_}
-use mathlib.Core.Bool.{true}
 use mathlib.Core.List.{List, [], _∷_, _++_, map}
 use mathlib.Core.Option.{Option, none, some}
-use mathlib.Core.Logic.{_⊎_, _↔_}
+use mathlib.Core.Logic.{_↔_}
 use lib.ListN.{length, take, drop}
 use Rattle.std.specs.Iters.{counting}
-use Rattle.model.specs.Automaton.{Automaton, weight, Starts, Follows, Controller, WellFormedFor, WellFormed, AtMost, Exceeds, HasCount, CountAtMost, CountAbove, CountIs, NoRejectingCycle, Row, controller}
-use Rattle.model.specs.Rules.{together}
+use Rattle.model.specs.Automaton.{Automaton, weight, Starts, Follows, Controller, WellFormedFor, WellFormed, Exceeds, CountAtMost, CountAbove, CountIs, NoRejectingCycle, Row}
 use Rattle.model.specs.Lists.{In}
 use Rattle.model.specs.CountLaws.{RulesFor}
-use Rattle.model.specs.Text.{Named, filled}
 use Rattle.model.specs.Positions.{MoreThan, Described}
 use Rattle.model.specs.File.{file}
-use Rattle.model.specs.declared.refusal.Refusal.{Refusal}
 use Rattle.model.specs.declared.refusal.Refusal.the-variants.{NoneFound, Crowded}
 use Rattle.model.specs.SheetLaws.{stored-controller}
-use Rattle.model.specs.Sheet.{Sheet, same-name, look, opened, with-stored, rule-list, rules, Call, add, withdraw, limit, solve, frame, write, check, Answer, done, count, command, wrote, accepted, refused, Stored, answer, after, run, replies}
+use Rattle.model.specs.Sheet.{Sheet, look, opened, rule-list, rules, Call, add, withdraw, limit, solve, frame, write, check, Answer, done, count, command, wrote, accepted, refused, Stored, answer, after, run, replies}
 
 -- the states of a controller, written out
 abbrev pub rows-of : Automaton → Controller → List Row

@@ -9,7 +9,7 @@ use Rattle.model.specs.Lists.{first}
 use Rattle.model.specs.declared.fault.LineFault.the-variants.{Word, Order, Range}
 use Rattle.model.specs.declared.fault.ReadFault.{ReadFault}
 use Rattle.model.specs.declared.fault.ReadFault.the-variants.{Numbers, Length, Line as OfLine, Unreached}
-use Rattle.model.specs.Text.{Choice, one, each, Arrows, Line, n-line, s-line, r-line, t-line, between, digit-byte, name-byte, TextRule, all-reached, numbers-in-range, Number, numbers, inside, ReadRule, blank, filled, named-rule}
+use Rattle.model.specs.Text.{Choice, one, each, Arrows, Line, n-line, s-line, r-line, t-line, between, digit-byte, name-byte, TextRule, all-reached, numbers-in-range, numbers, inside, ReadRule, blank, filled, named-rule}
 
 -- the faults of a line, as faults of the reading
 abbrev pub bad-word : ℕ → ℕ → ReadFault

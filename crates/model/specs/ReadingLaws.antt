@@ -1,9 +1,9 @@
 -- What holds of reading a rule text: it is read as exactly the rule that it states, or gives exactly the fault that it has.
 use Prim.Native.Nat.{ℕ, _+_, _≤_, _<_}
 use mathlib.Core.Path.{_≡_}
-use mathlib.Core.Bool.{Bool, true, false, _&&_}
+use mathlib.Core.Bool.{Bool, true, _&&_}
 use mathlib.Core.List.{List, [], _∷_, _++_}
-use mathlib.Core.Option.{Option, none, some}
+use mathlib.Core.Option.{some}
 use mathlib.Core.Logic.{_⊎_, _↔_}
 use lib.ListN.{length, take, getD}
 use lib.Dec.{leb}

@@ -1,12 +1,10 @@
 -- Every refusal and every fault with its number, and the place of a fault in its text.
 use Prim.Native.Nat.{ℕ}
 use mathlib.Core.Option.{Option, none, some}
-use Rattle.model.specs.declared.fault.WordFault.{WordFault}
 use Rattle.model.specs.declared.fault.LineFault.{LineFault}
 use Rattle.model.specs.declared.fault.LineFault.the-variants.{Word, Order, Range}
 use Rattle.model.specs.declared.fault.ReadFault.{ReadFault}
 use Rattle.model.specs.declared.fault.ReadFault.the-variants.{Numbers, Length, Line, Unreached}
-use Rattle.model.specs.declared.refusal.Place.{Place}
 use Rattle.model.specs.declared.refusal.Refusal.{Refusal}
 use Rattle.model.specs.declared.refusal.Refusal.the-variants.{OutOfRange, HouseRule, UnlikeRule, NameTaken, NoRoom, NoSuchName, OverLimit, NoneFound, Crowded, NoController, NoSituation, ShortBuffer, Trailer, OtherSheet, Layout, Record, Certificate}
 

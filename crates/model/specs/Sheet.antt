@@ -1,7 +1,6 @@
 -- The sheet: what it holds, its calls, and what each answers and leaves.
-use Prim.Native.Nat.{ℕ, zero, suc, _+_, _≤_, _<_}
-use mathlib.Core.Path.{_≡_}
-use mathlib.Core.Bool.{Bool, true, false, cond, not, _&&_, _||_}
+use Prim.Native.Nat.{ℕ, _+_}
+use mathlib.Core.Bool.{Bool, true, false, cond, not, _&&_}
 use mathlib.Core.List.{List, [], _∷_, _++_, map}
 use mathlib.Core.Option.{Option, none, some}
 use lib.ListN.{length, getD, drop}
@@ -11,7 +10,7 @@ use Rattle.model.specs.Automaton.{Automaton, Row, no-row}
 use Rattle.model.specs.Rules.{together}
 use Rattle.model.specs.Lists.{any}
 use Rattle.model.specs.Text.{Named, ReadRule, blank, filled, between, numbers-in-range}
-use Rattle.model.specs.Positions.{Position, same, Found, Solution, found, none-found, too-crowded}
+use Rattle.model.specs.Positions.{same, Found, Solution, found, none-found, too-crowded}
 use Rattle.model.specs.Positions as Positions
 use Rattle.std.specs.declared.result.Result.{Result}
 use Rattle.std.specs.declared.result.Result.the-variants.{Ok, Err}

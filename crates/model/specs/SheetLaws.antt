@@ -3,15 +3,14 @@ use Prim.Native.Nat.{ℕ, _+_, _≤_, _<_}
 use mathlib.Core.Path.{_≡_}
 use mathlib.Core.Bool.{true}
 use mathlib.Core.List.{List, [], _∷_, _++_}
-use mathlib.Core.Option.{Option, none, some}
+use mathlib.Core.Option.{none, some}
 use mathlib.Core.Logic.{_⊎_, _↔_}
 use lib.ListN.{length}
-use Rattle.std.specs.declared.result.Result.{Result}
 use Rattle.model.specs.declared.refusal.Refusal.{Refusal}
 use Rattle.model.specs.declared.refusal.Refusal.the-variants.{OutOfRange, HouseRule, UnlikeRule, NameTaken, NoRoom, NoSuchName, OverLimit, NoneFound, Crowded, NoController, NoSituation, ShortBuffer}
 use Rattle.model.specs.Lists.{In}
 use Rattle.model.specs.Automaton.{Automaton, Controller, controller}
-use Rattle.model.specs.Text.{Named, ReadRule, blank, filled}
+use Rattle.model.specs.Text.{Named, blank, filled}
 use Rattle.model.specs.Positions.{Found, found, none-found, too-crowded}
 use Rattle.model.specs.Positions as Positions
 use Rattle.model.specs.File as File

@@ -1,16 +1,15 @@
 -- The words of a line are words exactly if their sentence says so.
 use Prim.Native.Nat.{ℕ, _≤_, _<_}
-use mathlib.Core.Path.{_≡_, refl, sym, ap, subst, _∙_}
-use mathlib.Core.Bool.{Bool, true, false, _&&_, _||_}
-use mathlib.Core.List.{List, [], _∷_}
-use mathlib.Core.Logic.{_⊎_, inl, inr, _↔_}
+use mathlib.Core.Path.{refl}
+use mathlib.Core.Bool.{_&&_, _||_}
+use mathlib.Core.List.{List}
 use lib.ListN.{length}
-use lib.Dec.{leb, ltb}
+use lib.Dec.{leb}
 use Rattle.std.specs.Orderings.{Decides}
-use Rattle.std.proofs.shelf.Tests.{ltb-true, lt-ltb, leb-true, le-leb, and-parts, and-from}
+use Rattle.std.proofs.shelf.Tests.{leb-true, le-leb, and-parts, and-from}
 use Rattle.std.proofs.shelf.Ways.{decides-and, decides-or, decides-ltb}
 use Rattle.model.specs.Lists.{every, In}
-use Rattle.model.specs.Text.{Choice, one, each, Arrows, Line, n-line, s-line, r-line, t-line, between, digit-byte, name-byte, good-name, one-digit, good-choice, correct}
+use Rattle.model.specs.Text.{Choice, one, each, n-line, s-line, r-line, t-line, between, digit-byte, name-byte, one-digit, good-choice}
 use Rattle.model.specs.ReadingLaws.{NameByte, Below, Correct-Exact}
 use Rattle.model.proofs.Lists.{decides-every}
 

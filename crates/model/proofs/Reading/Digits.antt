@@ -1,17 +1,16 @@
 -- The two readers that go up to the line end: digits, and the rest of a name.
-use Prim.Native.Nat.{ℕ, zero, suc, _+_, _-_, _<_, _≤_}
+use Prim.Native.Nat.{ℕ, suc, _+_, _-_}
 use mathlib.Core.Path.{_≡_, refl, sym, ap, _∙_, subst}
-use mathlib.Core.Bool.{Bool, true, false, cond, _&&_, _||_}
-use mathlib.Core.List.{List, [], _∷_, _++_, append-assoc, append-nil}
-use mathlib.Core.Logic.{_⊎_, inl, inr, ⊎-elim}
+use mathlib.Core.Bool.{Bool, true, false}
+use mathlib.Core.List.{List, [], _∷_, _++_}
+use mathlib.Core.Logic.{inl, inr, ⊎-elim}
 use native.Mathlib.Omega.{arith}
-use lib.ListN.{length, length-append}
-use lib.Dec.{eqb, leb, ltb}
-use Rattle.std.proofs.shelf.Tests.{eqb-true, ne-eqb, leb-true}
+use lib.Dec.{eqb}
+use Rattle.std.proofs.shelf.Tests.{eqb-true}
 use Rattle.model.specs.Lists.{every, joined}
-use Rattle.model.specs.Text.{digit-byte, name-byte, one-digit, digit-word}
-use Rattle.model.specs.Reading.{Part, part, wrong, Reader, digits, name-rest}
-use Rattle.model.proofs.Reading.Basics.{by-test, true-false, part-wrong, wrong-same, SamePart, part-same}
+use Rattle.model.specs.Text.{digit-byte, one-digit, digit-word}
+use Rattle.model.specs.Reading.{Part, part, wrong, digits}
+use Rattle.model.proofs.Reading.Basics.{by-test, true-false, part-wrong, wrong-same, part-same}
 use Rattle.model.proofs.Reading.Readers.{Takes, Stops, Proper}
 use Rattle.model.proofs.Reading.Words.{digit-value, digit-written}
 

@@ -1,23 +1,22 @@
 -- The reader of a line gives the line exactly if the bytes begin with the line's bytes, and stops exactly at the first byte at which no
 -- correct line goes on.
-use Prim.Native.Nat.{ℕ, zero, suc, _+_, _-_, _<_, _≤_}
+use Prim.Native.Nat.{ℕ, suc}
 use mathlib.Core.Path.{_≡_, refl, sym, ap, _∙_, subst}
-use mathlib.Core.Bool.{Bool, true, false, cond, _&&_, _||_}
-use mathlib.Core.List.{List, [], _∷_, _++_, append-assoc, append-nil}
-use mathlib.Core.Logic.{_⊎_, inl, inr, ⊎-elim, _↔_}
+use mathlib.Core.Bool.{true, false, _&&_, _||_}
+use mathlib.Core.List.{List, [], _∷_, _++_, append-assoc}
+use mathlib.Core.Logic.{⊎-elim}
 use native.Mathlib.Omega.{arith}
-use native.Mathlib.Numerals.{add-one}
-use lib.ListN.{length, length-append, take}
-use lib.Dec.{eqb, leb, ltb}
-use Rattle.std.proofs.shelf.Tests.{eqb-true, and-parts, and-from, le-leb, leb-true, or-cases, cases-order}
+use lib.ListN.{length}
+use lib.Dec.{eqb, leb}
+use Rattle.std.proofs.shelf.Tests.{eqb-true, and-parts, and-from, le-leb, leb-true, or-cases}
 use Rattle.model.specs.Lists.{every, joined}
-use Rattle.model.specs.Text.{Choice, Arrows, Line, n-line, s-line, r-line, t-line, correct, line-bytes, digit-byte, name-byte, one-digit, good-choice, digit-word, choice-word, between}
+use Rattle.model.specs.Text.{Choice, Arrows, Line, n-line, s-line, r-line, t-line, correct, line-bytes, name-byte, one-digit, good-choice, digit-word, choice-word, between}
 use Rattle.model.specs.Reading.{Part, part, wrong, Reader, _>>=_, given, byte, digit, choice, digits, name-rest, line-end, n-words, s-words, r-words, t-words, words, letter, first-line}
-use Rattle.model.proofs.Reading.Basics.{by-test, true-false, part-wrong, wrong-same, SamePart, part-same, bind-part, bind-wrong, bind-cases}
-use Rattle.model.proofs.Reading.Readers.{Takes, Stops, Proper, given-proper, byte-yes, byte-no, Byte, byte-takes, byte-proper, bind-proper}
-use Rattle.model.proofs.Reading.Words.{bind-read, Read, digit-proper, digit-sound, digit-complete, choice-proper, choice-sound, choice-complete, line-end-proper, line-end-sound}
-use Rattle.model.proofs.Reading.Digits.{every-cons, every-parts, digits-proper, ReadDigits, digits-sound, digits-complete}
-use Rattle.model.proofs.Reading.Names.{name-rest-proper, ReadName, name-rest-sound, name-rest-complete}
+use Rattle.model.proofs.Reading.Basics.{true-false, part-same, bind-part}
+use Rattle.model.proofs.Reading.Readers.{Stops, Proper, given-proper, byte-yes, byte-takes, byte-proper, bind-proper}
+use Rattle.model.proofs.Reading.Words.{bind-read, digit-proper, digit-sound, digit-complete, choice-proper, choice-sound, choice-complete, line-end-proper, line-end-sound}
+use Rattle.model.proofs.Reading.Digits.{every-cons, every-parts, digits-proper, digits-sound, digits-complete}
+use Rattle.model.proofs.Reading.Names.{name-rest-proper, name-rest-sound, name-rest-complete}
 
 -- PROPER
 

@@ -1,13 +1,13 @@
 -- What a rule's lines mean, and its reached states.
-use Prim.Native.Nat.{ℕ, _<_}
-use mathlib.Core.Path.{_≡_, refl, sym, ap, _∙_, subst}
-use mathlib.Core.Bool.{Bool, true, false, _&&_}
+use Prim.Native.Nat.{ℕ}
+use mathlib.Core.Path.{_≡_, refl, sym, _∙_, subst}
+use mathlib.Core.Bool.{Bool, true, _&&_}
 use mathlib.Core.List.{List, [], _∷_}
-use mathlib.Core.Logic.{_⊎_, inl, inr, ⊎-elim, _↔_}
+use mathlib.Core.Logic.{inl, inr, _↔_}
 use lib.Dec.{eqb}
 use Rattle.std.proofs.shelf.Tests.{eqb-true, eq-eqb, ltb-true, lt-ltb, and-parts, and-from}
 use Rattle.model.specs.Lists.{any, In}
-use Rattle.model.specs.Text.{Choice, one, each, Arrows, TextRule, among, chosen, has-arrow, meaning}
+use Rattle.model.specs.Text.{Choice, one, each, among, chosen, has-arrow}
 use Rattle.model.specs.ReadingLaws.{Chosen, Meaning-Exact, Reached-Exact}
 use Rattle.model.proofs.Reading.Basics.{by-test, true-false}
 use Rattle.model.proofs.Reading.Reached.{reached-list, reached-some, all-reached-exact}

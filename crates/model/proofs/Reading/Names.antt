@@ -1,17 +1,17 @@
 -- The rest of a name, up to the line end.
-use Prim.Native.Nat.{ℕ, zero, suc, _+_, _-_, _<_, _≤_}
+use Prim.Native.Nat.{ℕ, zero, suc, _≤_}
 use mathlib.Core.Path.{_≡_, refl, sym, ap, _∙_, subst}
-use mathlib.Core.Bool.{Bool, true, false, cond, _&&_, _||_}
-use mathlib.Core.List.{List, [], _∷_, _++_, append-assoc, append-nil}
-use mathlib.Core.Logic.{_⊎_, inl, inr, ⊎-elim}
+use mathlib.Core.Bool.{true, false}
+use mathlib.Core.List.{List, [], _∷_, _++_}
+use mathlib.Core.Logic.{inl, inr, ⊎-elim}
 use native.Mathlib.Omega.{arith}
-use lib.ListN.{length, length-append}
-use lib.Dec.{eqb, leb, ltb}
-use Rattle.std.proofs.shelf.Tests.{eqb-true, ne-eqb, leb-true, and-parts, or-cases}
-use Rattle.model.specs.Lists.{every, joined}
-use Rattle.model.specs.Text.{digit-byte, name-byte, between}
-use Rattle.model.specs.Reading.{Part, part, wrong, Reader, name-rest}
-use Rattle.model.proofs.Reading.Basics.{by-test, true-false, part-wrong, wrong-same, SamePart, part-same}
+use lib.ListN.{length}
+use lib.Dec.{eqb}
+use Rattle.std.proofs.shelf.Tests.{eqb-true, ne-eqb}
+use Rattle.model.specs.Lists.{every}
+use Rattle.model.specs.Text.{name-byte}
+use Rattle.model.specs.Reading.{Part, part, wrong, name-rest}
+use Rattle.model.proofs.Reading.Basics.{by-test, true-false, part-wrong, wrong-same, part-same}
 use Rattle.model.proofs.Reading.Readers.{Takes, Stops, Proper}
 use Rattle.model.proofs.Reading.Digits.{every-cons, every-parts}
 

@@ -1,8 +1,8 @@
 -- Each number of a line stands at its byte, and each digit of a line other than n is one of its numbers.
 use Prim.Native.Nat.{ℕ, zero, suc, _+_, _-_, _<_, _≤_}
-use mathlib.Core.Path.{_≡_, refl, sym, ap, _∙_, subst}
-use mathlib.Core.Bool.{Bool, true, false}
-use mathlib.Core.List.{List, [], _∷_, _++_, append-assoc, append-nil}
+use mathlib.Core.Path.{_≡_, refl, sym, _∙_, subst}
+use mathlib.Core.Bool.{true, false}
+use mathlib.Core.List.{List, [], _∷_, _++_, append-nil}
 use mathlib.Core.Logic.{_⊎_, inl, inr, ⊎-elim}
 use native.Mathlib.Omega.{arith}
 use lib.ListN.{length, length-append, getD}
@@ -11,7 +11,7 @@ use Rattle.std.proofs.shelf.Lists.{getD-append-left, getD-append-right, getD-ap
 use Rattle.model.specs.Lists.{In, joined}
 use Rattle.model.specs.Text.{Choice, one, each, Arrows, Line, n-line, s-line, r-line, t-line, line-bytes, digit-byte, digit-word, choice-word, Number, numbers, state-numbers, choice-number}
 use Rattle.model.specs.ReadingLaws.{Ascending, Numbers-Stand}
-use Rattle.model.proofs.Reading.Basics.{by-test, true-false}
+use Rattle.model.proofs.Reading.Basics.{true-false}
 use Rattle.model.proofs.Lists.{in-left, in-right, in-append}
 
 -- bytes that begin at byte o of their line, and the numbers that stand in them

@@ -1,18 +1,16 @@
 -- The lines so far, and the rule that they state.
-use Prim.Native.Nat.{ℕ, zero, suc, _+_, _<_, _≤_}
+use Prim.Native.Nat.{ℕ}
 use mathlib.Core.Path.{_≡_, refl, sym, ap, _∙_, subst}
-use mathlib.Core.Bool.{Bool, true, false, not, _&&_}
+use mathlib.Core.Bool.{true}
 use mathlib.Core.List.{List, [], _∷_, _++_, map, append-assoc, append-nil}
-use mathlib.Core.Logic.{_⊎_, inl, inr, ⊎-elim}
+use mathlib.Core.Logic.{inl, inr, ⊎-elim}
 use mathlib.Core.Option.{Option, none, some}
 use native.Mathlib.Omega.{arith}
-use lib.ListN.{length, length-append}
 use Rattle.std.proofs.shelf.Lists.{map-append}
-use Rattle.model.specs.Lists.{first, In}
-use Rattle.model.specs.Text.{Arrows, Line, n-line, s-line, r-line, t-line, correct, TextRule, lines, Number, numbers}
+use Rattle.model.specs.Lists.{In}
+use Rattle.model.specs.Text.{Arrows, Line, n-line, s-line, r-line, t-line, correct, TextRule, lines, numbers}
 use Rattle.model.specs.Reading.{SoFar, nothing, named, sized, full, with-arrows, onward, states-so-far}
 use Rattle.model.specs.ReadingLaws.{Inside, InRange}
-use Rattle.model.proofs.Reading.Basics.{by-test, true-false}
 use Rattle.model.proofs.Reading.Ranges.{none-some, some-same, AllInside}
 use Rattle.model.proofs.Lists.{in-append}
 

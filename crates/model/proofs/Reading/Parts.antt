@@ -1,22 +1,20 @@
 -- The readers of words and of a line, each exact, with its count of bytes.
-use Prim.Native.Nat.{ℕ, zero, suc, _+_, _<_, _≤_}
-use mathlib.Core.Path.{_≡_, refl, sym, ap, _∙_, subst}
-use mathlib.Core.Bool.{Bool, true, false, _&&_}
+use Prim.Native.Nat.{ℕ, _+_}
+use mathlib.Core.Path.{_≡_, sym, ap, _∙_}
+use mathlib.Core.Bool.{Bool, true, _&&_}
 use mathlib.Core.List.{List, [], _∷_, _++_, append-assoc}
-use mathlib.Core.Logic.{_⊎_, inl, inr, ⊎-elim, _↔_}
 use native.Mathlib.Omega.{arith}
 use lib.ListN.{length, length-append}
 use lib.Dec.{leb}
 use Rattle.std.proofs.shelf.Tests.{and-parts, and-from, leb-true, le-leb}
 use Rattle.model.specs.Lists.{every, joined}
-use Rattle.model.specs.Text.{Line, correct, line-bytes, one-digit, good-choice, digit-word, choice-word, name-byte}
-use Rattle.model.specs.Reading.{Part, part, wrong, Reader, _>>=_, byte, digit, choice, digits, name-rest, letter, words, first-line}
+use Rattle.model.specs.Text.{correct, line-bytes, one-digit, good-choice, digit-word, choice-word, name-byte}
+use Rattle.model.specs.Reading.{part, Reader, digit, choice, digits, name-rest}
 use Rattle.model.specs.ReadingLaws.{Reads, Words-Exact, Line-Exact}
-use Rattle.model.proofs.Reading.Basics.{SamePart, part-same, part-wrong}
-use Rattle.model.proofs.Reading.Readers.{Takes, Proper}
-use Rattle.model.proofs.Reading.Words.{Read, digit-proper, digit-sound, digit-complete, choice-proper, choice-sound, choice-complete}
-use Rattle.model.proofs.Reading.Digits.{digits-proper, ReadDigits, digits-sound, digits-complete}
-use Rattle.model.proofs.Reading.Names.{name-rest-proper, ReadName, name-rest-sound, name-rest-complete}
+use Rattle.model.proofs.Reading.Readers.{Proper}
+use Rattle.model.proofs.Reading.Words.{digit-proper, digit-sound, digit-complete, choice-proper, choice-sound, choice-complete}
+use Rattle.model.proofs.Reading.Digits.{digits-proper, digits-sound, digits-complete}
+use Rattle.model.proofs.Reading.Names.{name-rest-proper, name-rest-sound, name-rest-complete}
 use Rattle.model.proofs.Reading.Lines.{line-reader, line-proper, line-sound-at, line-complete-at}
 use Rattle.model.proofs.Reading.Stopping.{stop-sound, stop-complete}
 

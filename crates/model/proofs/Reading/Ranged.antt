@@ -1,18 +1,18 @@
 -- The ranges of a rule, in plain words; and its lines are settled by their bytes.
-use Prim.Native.Nat.{ℕ, zero, suc, _+_, _<_, _≤_}
+use Prim.Native.Nat.{ℕ, _+_, _<_, _≤_}
 use mathlib.Core.Path.{_≡_, refl, sym, ap, _∙_, subst}
-use mathlib.Core.Bool.{Bool, true, false, _&&_, _||_}
+use mathlib.Core.Bool.{Bool, true, _&&_, _||_}
 use mathlib.Core.List.{List, [], _∷_, _++_, map}
-use mathlib.Core.Logic.{_⊎_, inl, inr, ⊎-elim, _↔_}
+use mathlib.Core.Logic.{inl, inr, ⊎-elim, _↔_}
 use native.Mathlib.Omega.{arith}
 use lib.ListN.{length}
-use lib.Dec.{leb, ltb}
-use Rattle.std.proofs.shelf.Tests.{and-parts, and-from, or-cases, or-left, or-right, leb-true, le-leb, ltb-true, lt-ltb}
+use lib.Dec.{leb}
+use Rattle.std.proofs.shelf.Tests.{and-parts, and-from, or-cases, or-left, or-right, leb-true, le-leb, lt-ltb}
 use Rattle.model.specs.Lists.{every, In, joined}
-use Rattle.model.specs.Text.{Choice, one, each, Arrows, Line, n-line, s-line, r-line, t-line, correct, line-bytes, between, digit-byte, name-byte, good-name, one-digit, good-choice, TextRule, lines, Number, numbers, state-numbers, choice-number}
-use Rattle.model.specs.Reading.{Part, part, wrong, first-line}
+use Rattle.model.specs.Text.{Choice, one, each, Arrows, Line, n-line, s-line, r-line, t-line, correct, line-bytes, between, digit-byte, name-byte, one-digit, good-choice, TextRule, Number, numbers, state-numbers, choice-number}
+use Rattle.model.specs.Reading.{first-line}
 use Rattle.model.specs.ReadingLaws.{Inside, InRange, NumbersGood, NameByte, Below, Ranged, Range-Exact, Lines-Unique}
-use Rattle.model.proofs.Reading.Basics.{by-test, true-false, part-same, SamePart, part-wrong}
+use Rattle.model.proofs.Reading.Basics.{part-same}
 use Rattle.model.proofs.Reading.Ranges.{AllInside}
 use Rattle.model.proofs.Reading.Digits.{every-cons, every-parts}
 use Rattle.model.proofs.Lists.{in-left, in-right, in-append}

@@ -1,12 +1,11 @@
 -- The first number out of range.
-use Prim.Native.Nat.{ℕ, zero, suc, _+_, _<_, _≤_}
 use mathlib.Core.Path.{_≡_, refl, sym, ap, _∙_, subst}
-use mathlib.Core.Bool.{Bool, true, false, not, _&&_}
+use mathlib.Core.Bool.{Bool, true, false, not}
 use mathlib.Core.List.{List, [], _∷_, _++_}
-use mathlib.Core.Logic.{_⊎_, inl, inr, ⊎-elim}
-use mathlib.Core.Option.{Option, none, some}
+use mathlib.Core.Logic.{inl, inr, ⊎-elim}
+use mathlib.Core.Option.{none, some}
 use lib.Dec.{leb, ltb}
-use Rattle.std.proofs.shelf.Tests.{and-parts, and-from, leb-true, ltb-true, le-leb, lt-ltb, not-true, not-false, not-from-true, not-from-false}
+use Rattle.std.proofs.shelf.Tests.{and-parts, and-from, leb-true, ltb-true, le-leb, lt-ltb, not-true, not-false, not-from-true}
 use Rattle.model.specs.Lists.{first, In}
 use Rattle.model.specs.Text.{Number, inside}
 use Rattle.model.specs.ReadingLaws.{Inside}

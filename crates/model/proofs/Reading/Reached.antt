@@ -1,18 +1,18 @@
 -- The search over rule states meets exactly the reached states.
-use Prim.Native.Nat.{ℕ, zero, suc, _+_, _-_, _<_, _≤_}
-use mathlib.Core.Path.{_≡_, refl, sym, ap, _∙_, subst}
-use mathlib.Core.Bool.{Bool, true, false}
-use mathlib.Core.List.{List, [], _∷_, _++_}
-use mathlib.Core.Logic.{_⊎_, inl, inr, ⊎-elim, _↔_}
+use Prim.Native.Nat.{ℕ, zero, suc, _+_, _<_}
+use mathlib.Core.Path.{_≡_, refl, sym, _∙_, subst}
+use mathlib.Core.Bool.{true, false}
+use mathlib.Core.List.{List, [], _∷_}
+use mathlib.Core.Logic.{inl, ⊎-elim, _↔_}
 use mathlib.Core.Option.{Option, none, some}
 use native.Mathlib.Omega.{arith}
 use lib.ListN.{length}
-use lib.Dec.{eqb, leb}
+use lib.Dec.{eqb}
 use Rattle.std.specs.Iters.{counting}
-use Rattle.std.proofs.shelf.Tests.{eqb-true, eq-eqb, cases-order, cases-lt}
+use Rattle.std.proofs.shelf.Tests.{eqb-true, eq-eqb}
 use Rattle.std.proofs.shelf.Ways.{decides-eqb}
 use Rattle.std.proofs.shelf.Counted.{length-counting}
-use Rattle.model.specs.Automaton.{Automaton, Starts, Follows}
+use Rattle.model.specs.Automaton.{Automaton, Follows}
 use Rattle.model.specs.Search.{reached-from}
 use Rattle.model.specs.Lists.{any, joined, In, Distinct}
 use Rattle.model.specs.Text.{TextRule, meaning, neighbours, reached, all-reached}

@@ -1,14 +1,14 @@
 -- What every reader of a line has in common: a part it gives is settled by the bytes it took, and where it stops, it could have gone
 -- on before, and does not with the next byte, whatever follows.
-use Prim.Native.Nat.{ℕ, zero, suc, _+_, _<_, _≤_}
-use mathlib.Core.Path.{_≡_, refl, sym, ap, _∙_, subst}
+use Prim.Native.Nat.{ℕ, suc, _+_, _<_}
+use mathlib.Core.Path.{_≡_, refl, sym, ap, _∙_}
 use mathlib.Core.Bool.{Bool, true, false}
 use mathlib.Core.List.{List, [], _∷_, _++_, append-assoc, append-nil}
 use mathlib.Core.Logic.{_⊎_, inl, inr, ⊎-elim}
 use native.Mathlib.Omega.{arith}
 use lib.ListN.{length, length-append}
 use Rattle.model.specs.Reading.{Part, part, wrong, Reader, _>>=_, given, byte}
-use Rattle.model.proofs.Reading.Basics.{by-test, true-false, part-wrong, wrong-same, SamePart, part-same, bind-part, bind-wrong, bind-cases}
+use Rattle.model.proofs.Reading.Basics.{by-test, part-wrong, wrong-same, part-same, bind-part, bind-wrong, bind-cases}
 
 pub record Takes {X : Type 0} (f : Reader X) (i : ℕ) (bytes : List ℕ) (x : X) (j : ℕ) (rest : List ℕ) : Type 0 where
   pub eaten : List ℕ

@@ -1,19 +1,18 @@
 -- Where the reader of a line stops is the first byte at which no correct line goes on.
-use Prim.Native.Nat.{ℕ, zero, suc, _+_, _-_, _<_, _≤_}
-use mathlib.Core.Path.{_≡_, refl, sym, ap, _∙_, subst}
-use mathlib.Core.Bool.{Bool, true, false}
+use Prim.Native.Nat.{ℕ, suc, _+_, _<_, _≤_}
+use mathlib.Core.Path.{_≡_, refl, sym, ap, _∙_}
+use mathlib.Core.Bool.{true}
 use mathlib.Core.List.{List, [], _∷_, _++_, append-assoc, append-nil}
-use mathlib.Core.Logic.{_⊎_, inl, inr, ⊎-elim, _↔_}
+use mathlib.Core.Logic.{inl, inr, ⊎-elim}
 use native.Mathlib.Omega.{arith}
 use lib.ListN.{length, length-append, take, drop}
 use Rattle.std.proofs.shelf.Tests.{cases-order, cases-lt}
 use Rattle.std.proofs.shelf.Lists.{take-at, take-take, take-append-le, take-append-drop}
 use Rattle.model.specs.Text.{Line, correct, line-bytes}
 use Rattle.model.specs.Reading.{Part, part, wrong, first-line}
-use Rattle.model.specs.ReadingLaws.{Begins, GoesOn, StopsAt}
-use Rattle.model.proofs.Reading.Basics.{by-test, true-false, part-wrong, wrong-same, SamePart, part-same}
-use Rattle.model.proofs.Reading.Readers.{Stops}
-use Rattle.model.proofs.Reading.Lines.{line-sound, line-complete, line-stops, line-reader}
+use Rattle.model.specs.ReadingLaws.{GoesOn, StopsAt}
+use Rattle.model.proofs.Reading.Basics.{part-wrong, part-same}
+use Rattle.model.proofs.Reading.Lines.{line-sound, line-complete, line-stops}
 
 pub stop-sound : (bytes : List ℕ) (at : ℕ) → first-line bytes ≡ wrong at → StopsAt bytes at
 stop-sound bytes at e =

@@ -1,25 +1,25 @@
 -- Reading: what it answers is what the answer says, and each answer that says so is given.
 use Prim.Native.Nat.{ℕ, zero, suc, _+_, _<_, _≤_}
 use mathlib.Core.Path.{_≡_, refl, sym, ap, _∙_, subst}
-use mathlib.Core.Bool.{Bool, true, false, not, _&&_}
-use mathlib.Core.List.{List, [], _∷_, _++_, map, append-assoc, append-nil}
-use mathlib.Core.Logic.{_⊎_, inl, inr, ⊎-elim, _↔_}
+use mathlib.Core.Bool.{true, false}
+use mathlib.Core.List.{List, [], _∷_, _++_, append-assoc, append-nil}
+use mathlib.Core.Logic.{_⊎_, inl, inr, ⊎-elim}
 use mathlib.Core.Option.{Option, none, some}
 use native.Mathlib.Omega.{arith}
 use lib.ListN.{length, length-append}
 use lib.Dec.{leb}
 use Rattle.std.proofs.shelf.Tests.{and-parts, and-from, leb-true, le-leb}
 use Rattle.model.specs.Lists.{first, In, joined}
-use Rattle.model.specs.Text.{Arrows, Line, n-line, s-line, r-line, t-line, correct, line-bytes, TextRule, lines, text, meaning, all-reached, between, numbers-in-range, Number, numbers}
+use Rattle.model.specs.Text.{Line, n-line, s-line, r-line, t-line, correct, line-bytes, TextRule, lines, text, meaning, all-reached, between, numbers-in-range, Number, numbers}
 use Rattle.model.specs.declared.fault.LineFault.the-variants.{Word, Order, Range}
 use Rattle.model.specs.declared.fault.ReadFault.{ReadFault}
 use Rattle.model.specs.declared.fault.ReadFault.the-variants.{Numbers, Length, Line as OfLine, Unreached}
 use Rattle.model.specs.Reading.{bad-word, bad-order, bad-range, Part, part, wrong, first-line, SoFar, nothing, named, sized, full, onward, states-so-far, Reading, reads, faulty, at-end, read-lines, read}
-use Rattle.model.specs.ReadingLaws.{Inside, Ranged, AllReached, NumbersGood, LengthGood, StopsAt, Behind, NextLine, InOrder, FirstOutside, Says, ReadingSays, Reading-Exact, Faults-Exact, Reading-Decided}
+use Rattle.model.specs.ReadingLaws.{Ranged, AllReached, NumbersGood, LengthGood, StopsAt, Behind, NextLine, InOrder, FirstOutside, Says, ReadingSays, Reading-Exact, Faults-Exact, Reading-Decided}
 use Rattle.model.proofs.Reading.Basics.{by-test, true-false}
-use Rattle.model.proofs.Reading.Ranges.{none-some, some-same, AllInside, outside, first-none, none-first, Outside, first-some, some-first}
+use Rattle.model.proofs.Reading.Ranges.{none-some, some-same, AllInside, outside, first-none, none-first, first-some, some-first}
 use Rattle.model.proofs.Lists.{in-left, joined-append}
-use Rattle.model.proofs.Reading.Orders.{lines-so-far, after, after-cons, after-inv, after-split, after-join, after-push, after-lines, onward-numbers, kept-numbers, Fine, fine-push, after-rule, in-order, completed, missing, completed-lines, completed-fine}
+use Rattle.model.proofs.Reading.Orders.{lines-so-far, after, after-inv, after-split, after-push, after-lines, onward-numbers, kept-numbers, Fine, fine-push, after-rule, in-order, completed, missing, completed-lines, completed-fine}
 use Rattle.model.proofs.Reading.Lines.{line-sound, line-complete}
 use Rattle.model.proofs.Reading.Stopping.{stop-sound, stop-complete}
 use Rattle.model.proofs.Reading.Reached.{all-reached-exact}

@@ -1,18 +1,16 @@
 -- Each word's reader gives the word exactly if the bytes begin with the word's bytes, and stops as every reader does.
-use Prim.Native.Nat.{ℕ, zero, suc, _+_, _-_, _<_, _≤_}
+use Prim.Native.Nat.{ℕ, suc, _+_, _-_}
 use mathlib.Core.Path.{_≡_, refl, sym, ap, _∙_, subst}
-use mathlib.Core.Bool.{Bool, true, false, cond, _&&_, _||_}
-use mathlib.Core.List.{List, [], _∷_, _++_, append-assoc, append-nil}
-use mathlib.Core.Logic.{_⊎_, inl, inr, ⊎-elim}
+use mathlib.Core.Bool.{Bool, true, false, cond, _||_}
+use mathlib.Core.List.{List, [], _∷_, _++_}
+use mathlib.Core.Logic.{⊎-elim}
 use native.Mathlib.Omega.{arith}
-use lib.ListN.{length, length-append}
-use lib.Dec.{eqb, leb, ltb}
-use Rattle.std.proofs.shelf.Tests.{eqb-true, eq-eqb, leb-true, ltb-true, lt-ltb, le-leb, and-parts, and-from, or-cases, or-left, or-right, ne-eqb, eqb-false}
-use Rattle.model.specs.Lists.{every, joined}
-use Rattle.model.specs.Text.{Choice, one, each, digit-byte, name-byte, one-digit, good-choice, digit-word, choice-word, between}
-use Rattle.model.specs.Reading.{Part, part, wrong, Reader, _>>=_, given, byte, digit, choice, digits, name-rest, line-end}
-use Rattle.model.proofs.Reading.Basics.{by-test, true-false, part-wrong, wrong-same, SamePart, part-same, bind-part, bind-wrong, bind-cases}
-use Rattle.model.proofs.Reading.Readers.{Takes, Stops, Proper, given-proper, byte-yes, byte-no, Byte, byte-takes, byte-proper, bind-proper}
+use lib.Dec.{eqb, leb}
+use Rattle.std.proofs.shelf.Tests.{eqb-true, leb-true, ltb-true, lt-ltb, le-leb, and-parts, and-from, or-cases, or-left, ne-eqb}
+use Rattle.model.specs.Text.{Choice, one, each, digit-byte, one-digit, good-choice, digit-word, choice-word}
+use Rattle.model.specs.Reading.{part, Reader, _>>=_, given, byte, digit, choice, line-end}
+use Rattle.model.proofs.Reading.Basics.{by-test, true-false, part-wrong, part-same, bind-part, bind-cases}
+use Rattle.model.proofs.Reading.Readers.{Proper, given-proper, byte-yes, byte-takes, byte-proper, bind-proper}
 
 -- a reader of several parts that gives a value: what each gave
 pub bind-read : {P X Y : Type 0} (f : Reader X) (g : X → Reader Y) (i : ℕ) (bytes : List ℕ) (y : Y) (k : ℕ) (rest : List ℕ)
