@@ -1,6 +1,10 @@
 //! What can be wrong with a rule text, and where: a fault of a word is carried whole in the fault of its line, and that in the
 //! fault of the reading. Lines count from 1, bytes of a line from 0.
 
+ghost use mathlib.Core.Path.{_≡_};
+ghost use Rattle.model.specs.declared.fault.LineFault.the-variants.{Word};
+ghost use Rattle.model.specs.declared.fault.ReadFault.the-variants.{Line};
+
 /// A wrong or missing letter, space, word or line end: the first byte of the line at which no correct line goes on.
 #[derive(Clone, Copy, Debug, PartialEq, Eq)]
 pub struct WordFault {
@@ -30,4 +34,20 @@ pub enum ReadFault {
     Line(LineFault),
     /// Some state is never reached from the start; the line is the one behind the last.
     Unreached { line: usize },
+}
+
+pub impl From<WordFault> for LineFault as LineFromWord {
+    ghost converts = { λ word r. r ≡ Word word };
+
+    fn from(word: WordFault) -> LineFault {
+        LineFault::Word(word)
+    }
+}
+
+pub impl From<LineFault> for ReadFault as ReadFromLine {
+    ghost converts = { λ line r. r ≡ Line line };
+
+    fn from(line: LineFault) -> ReadFault {
+        ReadFault::Line(line)
+    }
 }

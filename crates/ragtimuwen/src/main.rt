@@ -1,14 +1,21 @@
 //! Answers a script about rules, line by line. The script is standard input, or the file that the one argument names.
 ghost use Prim.Native.Nat.{_<_};
+use model::fault::ReadFault;
+use model::number::TextPlace;
 use rules::Rule;
 use rules::lists::followers;
 use rules::lists::rejecting_states;
 use rules::lists::start_states;
+use ruletext::ReadRule;
+use ruletext::read::read;
+use ruletext::rule::answers::ReadRuleRule;
 use script::bad_line::BadLineDisplay;
+use script::bytes::Source;
 use script::lines::Lines;
 use script::parse;
 use script::parse::Command;
 use script::parse::Fault;
+use script::parse::Text;
 use script::rule::AnyRuleRule;
 use std::alloc::AllocError;
 use std::alloc::Global;
@@ -80,19 +87,53 @@ fn show_command<R: Rule, W: Write>(
     Ok(())
 }
 
-fn answer<W: Write>(out: &mut W, heap: Global, line: &[u8]) -> io::Result<()> {
+// The bytes that a script writes or names.
+fn load(rt: &LibcRuntime, source: Source) -> io::Result<Vec<u8>> {
+    match source {
+        Source::Script(bytes) => Ok(bytes),
+        Source::File(path) => match std::str::from_utf8(&path) {
+            Ok(path) => fs::read(rt, path),
+            Err(_) => Err(io::Error::from(io::ErrorKind::InvalidInput)),
+        },
+    }
+}
+
+// The refusal of a text: its number, and its place if it has one.
+fn write_fault<W: Write>(out: &mut W, fault: ReadFault) -> io::Result<()> {
+    let number = fault.number();
+    match fault.place() {
+        Some(TextPlace { line, byte }) => writeln!(out, "read refused {number} line {line} byte {byte}"),
+        None => writeln!(out, "read refused {number}"),
+    }
+}
+
+// Reads a rule text, and shows the rule or what is wrong with the text.
+fn show_text<W: Write>(rt: &LibcRuntime, out: &mut W, heap: Global, text: Text) -> io::Result<()> {
+    let Text { situations, commands, source } = text;
+    let Ok(bytes) = load(rt, source) else {
+        return writeln!(out, "bad line: the file cannot be read");
+    };
+    let mut rule = ReadRule::blank();
+    match read(&bytes, situations, commands, &mut rule) {
+        Ok(()) => show(out, heap, &rule),
+        Err(fault) => write_fault(out, fault),
+    }
+}
+
+fn answer<W: Write>(rt: &LibcRuntime, out: &mut W, heap: Global, line: &[u8]) -> io::Result<()> {
     match parse::read_line(heap, line) {
         Ok(Command::Nothing) => Ok(()),
         Ok(Command::Show(rule)) => show(out, heap, &rule),
+        Ok(Command::ShowText(text)) => show_text(rt, out, heap, text),
         Err(Fault::Line(reason)) => writeln!(out, "bad line: {reason}"),
         Err(Fault::Memory) => Err(io::Error::from(AllocError)),
     }
 }
 
-fn answer_all<W: Write>(out: &mut W, heap: Global, script: &[u8]) -> io::Result<()> {
+fn answer_all<W: Write>(rt: &LibcRuntime, out: &mut W, heap: Global, script: &[u8]) -> io::Result<()> {
     let mut lines = Lines::new(script);
     while let Some(line) = lines.next() {
-        answer(out, heap, line)?;
+        answer(rt, out, heap, line)?;
     }
     out.flush()
 }
@@ -119,7 +160,7 @@ fn read_script(rt: &LibcRuntime) -> io::Result<Vec<u8>> {
 
 fn main(rt: LibcRuntime) -> io::Result<()> {
     match read_script(&rt) {
-        Ok(script) => answer_all(&mut BufWriter::new(rt.stdout()), rt.alloc(), &script),
+        Ok(script) => answer_all(&rt, &mut BufWriter::new(rt.stdout()), rt.alloc(), &script),
         Err(error) => {
             eprintln!(rt, "ragtimuwen: the script cannot be read: {error}")?;
             Err(error)

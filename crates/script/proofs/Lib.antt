@@ -1,2 +1,4 @@
 pub mod Denoted
 pub mod SameLine
+pub mod Hex
+pub mod Saying

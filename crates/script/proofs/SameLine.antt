@@ -6,7 +6,8 @@ use lib.Chars.{codes}
 use Rattle.model.specs.Automaton.{Automaton}
 use Rattle.model.specs.Rules.{pair}
 use Rattle.script.specs.Words.{Stands}
-use Rattle.script.specs.Grammar.{NumberAt, FreeNumbers, ReplyNumbers, Writes, writes-pair}
+use Rattle.script.specs.Grammar.{NumberAt, FreeNumbers, ReplyNumbers, Writes, writes-pair, TextAt}
+use Rattle.script.specs.declared.bytes.Source.{Source}
 
 pub number-in : {line line′ : List ℕ} {from to n : ℕ} → line ≡ line′ → NumberAt line from to n → NumberAt line′ from to n
 number-in {from} {to} {n} same h = let P : List ℕ → Type 0 = λ l. NumberAt l from to n in subst P same h
@@ -26,3 +27,9 @@ word-as {line} {from} {to} h is = let P : List ℕ → Type 0 = λ w. Stands lin
 pub pair-written : {line : List ℕ} {from p q to : ℕ} {R R′ R″ : Automaton} → Stands line from p (codes "pair") → Writes line p q R → Writes line q to R′ → R″ ≡ pair R R′ → Writes line from to R″
 pair-written {line} {from} {to} h first second is =
     let P : Automaton → Type 0 = λ r. Writes line from to r in subst P (sym is) (writes-pair h first second)
+
+pub stands-in : {line line′ word : List ℕ} {from to : ℕ} → line ≡ line′ → Stands line from to word → Stands line′ from to word
+stands-in {word} {from} {to} same h = let P : List ℕ → Type 0 = λ l. Stands l from to word in subst P same h
+
+pub text-in : {line line′ : List ℕ} {from to : ℕ} {s : Source} → line ≡ line′ → TextAt line from to s → TextAt line′ from to s
+text-in {from} {to} {s} same h = let P : List ℕ → Type 0 = λ l. TextAt l from to s in subst P same h

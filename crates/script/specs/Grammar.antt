@@ -6,6 +6,8 @@ use lib.Chars.{codes}
 use Rattle.model.specs.Automaton.{Automaton}
 use Rattle.model.specs.Rules.{free, reply, pair}
 use Rattle.script.specs.Words.{Stands, Denotes}
+use Rattle.script.specs.Bytes.{Tells}
+use Rattle.script.specs.declared.bytes.Source.{Source}
 
 -- from one place up to another there stands one word, which denotes the number
 pub record NumberAt (line : List ℕ) (from to n : ℕ) : Type 0 where
@@ -41,3 +43,19 @@ pub data Writes (line : List ℕ) : ℕ → ℕ → Automaton → Type 0 where
   writes-free : {from p to : ℕ} {R : Automaton} → Stands line from p (codes "free") → FreeNumbers line p to R → Writes line from to R
   writes-reply : {from p to : ℕ} {R : Automaton} → Stands line from p (codes "reply") → ReplyNumbers line p to R → Writes line from to R
   writes-pair : {from p q to : ℕ} {R R′ : Automaton} → Stands line from p (codes "pair") → Writes line p q R → Writes line q to R′ → Writes line from to (pair R R′)
+
+-- from one place up to another there stand the word `text` and the word of its bytes
+pub record TextAt (line : List ℕ) (from to : ℕ) (s : Source) : Type 0 where
+  pub p : ℕ
+  pub keyword : Stands line from p (codes "text")
+  pub word : List ℕ
+  pub at-word : Stands line p to word
+  pub tells : Tells word s
+
+-- from one place up to another there stand two numbers, and a text
+pub record NumbersAndText (line : List ℕ) (from to situations commands : ℕ) (s : Source) : Type 0 where
+  pub p : ℕ
+  pub q : ℕ
+  pub at-situations : NumberAt line from p situations
+  pub at-commands : NumberAt line p q commands
+  pub at-text : TextAt line q to s

@@ -32,6 +32,11 @@ pub record Stands (line : List ℕ) (from to : ℕ) (word : List ℕ) : Type 0 w
   pub place : WordAt line from start to
   pub text : word ≡ take (to - start) (drop start line)
 
+-- from one place on this is the next word
+pub record Upcoming (line : List ℕ) (from : ℕ) (word : List ℕ) : Type 0 where
+  pub to : ℕ
+  pub stands : Stands line from to word
+
 -- the first n bytes are decimal digits
 abbrev pub Digits : List ℕ → ℕ → Type 0
 Digits word n = (k : ℕ) → k < n → (48 ≤ getD word k 0) × (getD word k 0 ≤ 57)

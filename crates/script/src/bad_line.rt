@@ -9,6 +9,9 @@ pub enum BadLine {
     NotNumber,
     TooLarge,
     TooDeep,
+    BytesMissing,
+    NotHex,
+    OddHex,
     TextAfter,
 }
 
@@ -22,6 +25,9 @@ pub impl fmt::Display for BadLine as BadLineDisplay {
                 BadLine::NotNumber => "not a number",
                 BadLine::TooLarge => "a number above 255",
                 BadLine::TooDeep => "pairs more than 1000 deep",
+                BadLine::BytesMissing => "a text is missing",
+                BadLine::NotHex => "not a hexadecimal digit",
+                BadLine::OddHex => "an odd number of hexadecimal digits",
                 BadLine::TextAfter => "text after the last word",
             },
         )

@@ -1,15 +1,17 @@
 //! What a line of a script says.
 ghost use mathlib.Core.Path.{_≡_};
 ghost use Prim.Native.Nat.{_≤_};
-ghost use Rattle.script.specs.Grammar.{NumberAt, FreeNumbers, ReplyNumbers, Writes};
+ghost use Rattle.script.specs.Grammar.{NumberAt, FreeNumbers, ReplyNumbers, Writes, TextAt, NumbersAndText};
 ghost use Rattle.script.specs.Keywords.{Spells};
-ghost use Rattle.script.specs.Commands.{Says};
+ghost use Rattle.script.specs.Commands.{Says, Asks};
 ghost use Rattle.model.specs.Rules.{free, reply};
 ghost use Rattle.script.specs.Meaning.{meaning-of, depth};
 ghost use Rattle.script.specs.declared.parse.Fault.the-variants.{Line, Memory};
 ghost use Rattle.std.specs.Vec.{made};
 use crate::bad_line::BadLine;
 use crate::bad_line::BadLineDebug;
+use crate::bytes::Source;
+use crate::bytes::bytes_of;
 use crate::rule::AnyRule;
 use crate::words::Words;
 use crate::words::number;
@@ -17,6 +19,7 @@ use rules::Free;
 use rules::Reply;
 use std::alloc::AllocError;
 use std::alloc::Global;
+use std::alloc::Refused;
 
 /// How deep pairs may stand inside one another. What goes down the pairs uses the stack at each level, so there is a limit. The text of
 /// `BadLine::TooDeep` has the same number.
@@ -28,6 +31,16 @@ pub enum Command {
     /// The line is blank or a comment.
     Nothing,
     Show(AnyRule),
+    /// Read a rule text with these numbers, and show the rule.
+    ShowText(Text),
+}
+
+/// A rule text to read, with its numbers of situations and commands.
+#[derive(Drop)]
+pub struct Text {
+    pub situations: u8,
+    pub commands: u8,
+    pub source: Source,
 }
 
 /// Why a line gave no command.
@@ -42,6 +55,14 @@ pub impl From<BadLine> for Fault as FaultFromBadLine {
 
     fn from(reason: BadLine) -> Fault {
         Fault::Line(reason)
+    }
+}
+
+pub impl<T: Drop> From<Refused<T>> for Fault as FaultFromRefused {
+    ghost converts = { λ _ r. r ≡ Memory };
+
+    fn from(_refused: Refused<T>) -> Fault {
+        Fault::Memory
     }
 }
 
@@ -71,6 +92,7 @@ enum Keyword {
     Free,
     Reply,
     Pair,
+    Text,
     Other,
 }
 
@@ -83,6 +105,7 @@ fn keyword_of(word: &[u8]) -> Keyword
         b"free" => Keyword::Free,
         b"reply" => Keyword::Reply,
         b"pair" => Keyword::Pair,
+        b"text" => Keyword::Text,
         _ => Keyword::Other,
     }
 }
@@ -129,7 +152,55 @@ fn rule(heap: Global, words: &mut Words<'_>, levels: u16) -> Result<AnyRule, Fau
             let second = rule(heap, words, levels - 1)?;
             Ok(AnyRule::pair(heap, first, second)?)
         }
-        Keyword::Show | Keyword::Other => Err(Fault::Line(BadLine::RuleExpected)),
+        Keyword::Show | Keyword::Text | Keyword::Other => Err(Fault::Line(BadLine::RuleExpected)),
+    }
+}
+
+// The words behind `show S C`: `text`, and where the text is.
+fn text_source(heap: Global, words: &mut Words<'_>) -> Result<Source, Fault>
+    ensures same { λ _. ⌜ now (now (words .exit) .line) ≡ now (now (words .entry) .line) ⌝ }
+    ensures writes { λ r. ⌜ made r (λ s. TextAt (now (now (words .entry) .line)) (now (words .entry) .at) (now (words .exit) .at) s) ⌝ }
+{
+    let Some(word) = words.next() else {
+        return Err(Fault::Line(BadLine::RuleExpected));
+    };
+    match keyword_of(word) {
+        Keyword::Text => match words.next() {
+            Some(bytes) => bytes_of(heap, bytes),
+            None => Err(Fault::Line(BadLine::BytesMissing)),
+        },
+        _ => Err(Fault::Line(BadLine::RuleExpected)),
+    }
+}
+
+// Two numbers, and a text to read with them.
+fn text_request(heap: Global, words: &mut Words<'_>) -> Result<Text, Fault>
+    ensures same { λ _. ⌜ now (now (words .exit) .line) ≡ now (now (words .entry) .line) ⌝ }
+    ensures writes { λ r. ⌜ made r (λ t. NumbersAndText (now (now (words .entry) .line)) (now (words .entry) .at) (now (words .exit) .at) (t .situations) (t .commands) (t .source)) ⌝ }
+{
+    let situations = next_number(words)?;
+    let commands = next_number(words)?;
+    let source = text_source(heap, words)?;
+    Ok(Text { situations, commands, source })
+}
+
+// Whether the next word begins with a digit.
+fn number_comes(words: &Words<'_>) -> bool {
+    match words.peek() {
+        Some([first, ..]) => first.is_ascii_digit(),
+        _ => false,
+    }
+}
+
+// What stands behind `show`: a rule, or numbers and a text.
+fn shown(heap: Global, words: &mut Words<'_>) -> Result<Command, Fault>
+    ensures same { λ _. ⌜ now (now (words .exit) .line) ≡ now (now (words .entry) .line) ⌝ }
+    ensures writes { λ r. ⌜ made r (λ c. Asks (now (now (words .entry) .line)) (now (words .entry) .at) (now (words .exit) .at) c) ⌝ }
+{
+    if number_comes(words) {
+        Ok(Command::ShowText(text_request(heap, words)?))
+    } else {
+        Ok(Command::Show(rule(heap, words, MOST_LEVELS)?))
     }
 }
 
@@ -146,9 +217,9 @@ pub fn read_line(heap: Global, line: &[u8]) -> Result<Command, Fault>
     };
     match keyword_of(word) {
         Keyword::Show => {
-            let shown = rule(heap, &mut words, MOST_LEVELS)?;
+            let command = shown(heap, &mut words)?;
             match words.next() {
-                None => Ok(Command::Show(shown)),
+                None => Ok(command),
                 Some(_) => Err(Fault::Line(BadLine::TextAfter)),
             }
         }

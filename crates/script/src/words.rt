@@ -4,7 +4,7 @@ ghost use mathlib.Core.Bool.{true, false};
 ghost use Prim.Native.Nat.{_≤_, _<_};
 ghost use denote.Ref.{now as holds};
 ghost use lib.ListN.{length, getD};
-ghost use Rattle.script.specs.Words.{blank, Blank, Solid, WordAt, Stands, Denotes};
+ghost use Rattle.script.specs.Words.{blank, Blank, Solid, WordAt, Stands, Upcoming, Denotes};
 ghost use Rattle.script.specs.Faults.{Refuses};
 ghost use Rattle.std.specs.Options.{Cases as BySome};
 ghost use Rattle.std.specs.Results.{Cases};
@@ -82,6 +82,14 @@ impl<'a> Words<'a> {
         ensures { λ r. ⌜ now (r .line) ≡ now (line .entry) ⌝ ∗ ⌜ r .at ≡ 0 ⌝ }
     {
         Words { line, at: 0 }
+    }
+
+    /// The next word, which is still to be taken.
+    pub fn peek(&self) -> Option<&'a [u8]>
+        ensures { λ r. ⌜ BySome r (Blank (now (now (self .entry) .line)) (now (self .entry) .at) (length (now (now (self .entry) .line)))) (λ w. Upcoming (now (now (self .entry) .line)) (now (self .entry) .at) (now w)) ⌝ }
+    {
+        let Place { start, end } = word_at(self.line, self.at)?;
+        Some(&self.line[start..end])
     }
 
     /// The next word.

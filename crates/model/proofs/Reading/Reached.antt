@@ -22,7 +22,7 @@ use Rattle.model.proofs.Reading.Basics.{by-test, true-false}
 use Rattle.model.proofs.Lists.{in-joined, joined-in, in-counting, counting-in, pigeons}
 use Rattle.model.proofs.Searches.{decides-met, Listed, Over, Result, searched}
 
-distinct-counting : (a n : ℕ) → Distinct (counting a n)
+pub distinct-counting : (a n : ℕ) → Distinct (counting a n)
 distinct-counting a zero = tt
 distinct-counting a (suc n) = ((λ h. let r = counting-in (a + 1) n a h in omega arith), distinct-counting (a + 1) n)
 

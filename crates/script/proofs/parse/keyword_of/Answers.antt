@@ -14,3 +14,6 @@ returns-in-114 c = same-lists _ _ (search (needs, places)) (λ k d h. grind (ari
 
 pub returns-in-115 : need.returns-in-115
 returns-in-115 c = same-lists _ _ (search (needs, places)) (λ k d h. grind (arith, places))
+
+pub returns-in-116 : need.returns-in-116
+returns-in-116 c = same-lists _ _ (search (needs, places)) (λ k d h. grind (arith, places))

@@ -1,0 +1,10 @@
+pub mod Bytes
+pub mod Unrolled
+pub mod Loops
+pub mod Stepping
+pub mod Adding
+pub mod Meeting
+pub mod Holding
+pub mod Going
+pub mod Lining
+pub mod Filling

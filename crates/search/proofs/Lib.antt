@@ -1,0 +1,5 @@
+pub mod Ring
+pub mod Places
+pub mod OneByOne
+pub mod Links
+pub mod Turns
