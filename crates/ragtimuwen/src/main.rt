@@ -102,14 +102,21 @@ fn load(rt: &LibcRuntime, source: Source) -> io::Result<Vec<u8>> {
 fn write_fault<W: Write>(out: &mut W, fault: ReadFault) -> io::Result<()> {
     let number = fault.number();
     match fault.place() {
-        Some(TextPlace { line, byte }) => writeln!(out, "read refused {number} line {line} byte {byte}"),
+        Some(TextPlace { line, byte }) => writeln!(
+            out,
+            "read refused {number} line {line} byte {byte}"
+        ),
         None => writeln!(out, "read refused {number}"),
     }
 }
 
 // Reads a rule text, and shows the rule or what is wrong with the text.
 fn show_text<W: Write>(rt: &LibcRuntime, out: &mut W, heap: Global, text: Text) -> io::Result<()> {
-    let Text { situations, commands, source } = text;
+    let Text {
+        situations,
+        commands,
+        source,
+    } = text;
     let Ok(bytes) = load(rt, source) else {
         return writeln!(out, "bad line: the file cannot be read");
     };
@@ -130,7 +137,12 @@ fn answer<W: Write>(rt: &LibcRuntime, out: &mut W, heap: Global, line: &[u8]) ->
     }
 }
 
-fn answer_all<W: Write>(rt: &LibcRuntime, out: &mut W, heap: Global, script: &[u8]) -> io::Result<()> {
+fn answer_all<W: Write>(
+    rt: &LibcRuntime,
+    out: &mut W,
+    heap: Global,
+    script: &[u8],
+) -> io::Result<()> {
     let mut lines = Lines::new(script);
     while let Some(line) = lines.next() {
         answer(rt, out, heap, line)?;

@@ -181,7 +181,11 @@ fn text_request(heap: Global, words: &mut Words<'_>) -> Result<Text, Fault>
     let situations = next_number(words)?;
     let commands = next_number(words)?;
     let source = text_source(heap, words)?;
-    Ok(Text { situations, commands, source })
+    Ok(Text {
+        situations,
+        commands,
+        source,
+    })
 }
 
 // Whether the next word begins with a digit.

@@ -73,6 +73,7 @@ pub impl Rule for ReadRule as ReadRuleRule {
         if self.states == 0 {
             return true;
         }
-        self.table.arrows[place_of(state, command, situation, follower)]
+        self.table
+            .arrows[place_of(state, command, situation, follower)]
     }
 }
