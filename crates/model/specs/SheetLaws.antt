@@ -49,6 +49,19 @@ Look-Exact =
     × ((look house S C capacity ≡ some OutOfRange) ↔ (InRange S C capacity → ⊥))
     × ((look house S C capacity ≡ some HouseRule) ↔ (InRange S C capacity × (FitsSheet house S C → ⊥)))
 
+-- a newly opened sheet holds what it was opened with, no added rule, limit 14 and no controller
+pub record New (house : Automaton) (situations commands capacity : ℕ) (s : Sheet) : Type 0 where
+  pub house-rule : s .house ≡ house
+  pub situation-number : s .situations ≡ situations
+  pub command-number : s .commands ≡ commands
+  pub room : s .capacity ≡ capacity
+  pub no-rule : s .added ≡ []
+  pub limit-14 : s .limit ≡ 14
+  pub no-controller : s .stored ≡ none
+
+abbrev pub Opened-New : Type 0
+Opened-New = (house : Automaton) (situations commands capacity : ℕ) → New house situations commands capacity (opened house situations commands capacity)
+
 -- CALLS
 
 -- the rule is for the sheet's situations and commands

@@ -6,7 +6,7 @@ ghost use Rattle.model.specs.PositionLaws.{Steps-Exact, Tallies-Exact};
 ghost use Rattle.model.specs.SearchLaws.{Search-Exact, Reach-Exact, Safe-Part-Largest};
 ghost use Rattle.model.specs.ReadingLaws.{Reading-Exact, Faults-Exact, Reading-Decided, Correct-Exact, Words-Exact, Line-Exact, Lines-Unique, Numbers-Stand, Range-Exact, Meaning-Exact, Reached-Exact};
 ghost use Rattle.model.specs.FileLaws.{File-Laid-Out, Check-Says};
-ghost use Rattle.model.specs.SheetLaws.{Names-Exact, Look-Exact, Calls-Exact, Refusals-Keep, Refused-Sheet, Rules-Stand};
+ghost use Rattle.model.specs.SheetLaws.{Names-Exact, Look-Exact, Opened-New, Calls-Exact, Refusals-Keep, Refused-Sheet, Rules-Stand};
 ghost use Rattle.model.specs.History.{After-Calls, Rules-Fit, Check-Exact, Solve-Least, Frames-Stay, Stored-Best, Written-Accepted, Accepted-Is-File, History-Law};
 ghost use Rattle.model.specs.Worked.{Worked-Sheets-Hold};
 
@@ -216,6 +216,13 @@ pub fn names_stand() -> u8
 /// The look refuses what is out of range, and a house rule that does not fit, and nothing else.
 pub fn look_stands() -> u8
     ensures { λ _. ⌜ Look-Exact ⌝ }
+{
+    0
+}
+
+/// A newly opened sheet has no added rule, limit 14 and no controller.
+pub fn opened_stands() -> u8
+    ensures { λ _. ⌜ Opened-New ⌝ }
 {
     0
 }
