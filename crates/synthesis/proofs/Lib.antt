@@ -1,0 +1,15 @@
+pub mod Deciding
+pub mod Making
+pub mod Agreeing
+pub mod Gathered
+pub mod Marks
+pub mod Lowest
+pub mod Pruned
+pub mod Carried
+pub mod Showing
+pub mod Flags
+pub mod Whole
+pub mod Controls
+pub mod Together
+pub mod Tries
+pub mod Stored

@@ -1,0 +1,5 @@
+pub mod Tables
+pub mod Safety
+pub mod Surveys
+pub mod Control
+pub mod Answers
