@@ -1,8 +1,15 @@
 //! Answers a script about rules, line by line. The script is standard input, or the file that the one argument names.
+ghost use mathlib.Core.Path.{_≡_};
 ghost use Prim.Native.Nat.{_<_};
+ghost use Rattle.std.specs.declared.option.Option.the-variants.{None};
+ghost use Rattle.script.specs.Meaning.{meaning-of};
+ghost use Rattle.ragtimuwen.specs.Solvable.{Solvable};
 use model::fault::ReadFault;
 use model::number::TextPlace;
+use model::refusal::Refusal;
+use rules::Free;
 use rules::Rule;
+use rules::builtin::FreeRule;
 use rules::lists::followers;
 use rules::lists::rejecting_states;
 use rules::lists::start_states;
@@ -15,6 +22,7 @@ use script::lines::Lines;
 use script::parse;
 use script::parse::Command;
 use script::parse::Fault;
+use script::parse::Setup;
 use script::parse::Text;
 use script::rule::AnyRuleRule;
 use std::alloc::AllocError;
@@ -25,6 +33,11 @@ use std::io;
 use std::io::BufWriter;
 use std::io::Read;
 use std::io::Write;
+use synthesis::solved::Found;
+use synthesis::solved::Solved;
+use synthesis::solving::solve;
+use synthesis::state::State;
+use synthesis::workspace::Workspace;
 
 // Writes the rule: a line of its numbers, its start states, its rejecting states, and then what follows each state.
 fn show<R: Rule, W: Write>(out: &mut W, heap: Global, rule: &R) -> io::Result<()> {
@@ -127,11 +140,90 @@ fn show_text<W: Write>(rt: &LibcRuntime, out: &mut W, heap: Global, text: Text) 
     }
 }
 
+// Why nothing is generated, if anything is wrong: the numbers or the capacity, the house rule, or the limit.
+fn look(setup: &Setup) -> Option<Refusal>
+    ensures { λ r. ⌜ (r ≡ None → Solvable (meaning-of (now (setup .entry) .house)) (now (setup .entry) .capacity) (now (setup .entry) .limit)) ⌝ }
+{
+    let house = &setup.house;
+    if setup.situations < 1 || setup.situations > 8 || setup.commands < 1 || setup.commands > 8 {
+        return Some(Refusal::OutOfRange);
+    }
+    if setup.capacity < 1 || setup.capacity > 1024 {
+        return Some(Refusal::OutOfRange);
+    }
+    if house.states() > 12
+        || house.situations() != setup.situations
+        || house.commands() != setup.commands
+    {
+        return Some(Refusal::HouseRule);
+    }
+    if setup.limit > 14 {
+        return Some(Refusal::OverLimit);
+    }
+    None
+}
+
+// A state of the controller: its number, its command, and its next state in each situation.
+fn write_state<W: Write>(
+    out: &mut W,
+    number: usize,
+    state: &State,
+    situations: u8,
+) -> io::Result<()> {
+    let command = state.command;
+    write!(out, "{number} command {command} next")?;
+    for next in state.nexts.iter().take(situations as usize) {
+        write!(out, " {next}")?;
+    }
+    writeln!(out)
+}
+
+// The count and the number of states of a controller, and then its states.
+fn write_controller<W: Write>(
+    out: &mut W,
+    found: Found,
+    states: &[State],
+    situations: u8,
+) -> io::Result<()> {
+    let Found { count, states: len } = found;
+    writeln!(out, "count {count} states {len}")?;
+    for (number, state) in states.iter().take(len).enumerate() {
+        write_state(out, number, state, situations)?;
+    }
+    Ok(())
+}
+
+fn write_refusal<W: Write>(out: &mut W, refusal: Refusal) -> io::Result<()> {
+    let number = refusal.number();
+    writeln!(out, "generate refused {number}")
+}
+
+// Generates a controller for the house rule alone, and writes it or why there is none.
+fn generate<W: Write>(out: &mut W, heap: Global, setup: Setup) -> io::Result<()> {
+    if let Some(refusal) = look(&setup) {
+        return write_refusal(out, refusal);
+    }
+    let mut workspace = Workspace::new(heap)?;
+    let added: [Free; 0] = [];
+    match solve(
+        &setup.house,
+        &added,
+        setup.capacity as usize,
+        setup.limit,
+        &mut workspace,
+    ) {
+        Solved::Found(found) => write_controller(out, found, &workspace.states, setup.situations),
+        Solved::NoneFound => write_refusal(out, Refusal::NoneFound),
+        Solved::Crowded => write_refusal(out, Refusal::Crowded),
+    }
+}
+
 fn answer<W: Write>(rt: &LibcRuntime, out: &mut W, heap: Global, line: &[u8]) -> io::Result<()> {
     match parse::read_line(heap, line) {
         Ok(Command::Nothing) => Ok(()),
         Ok(Command::Show(rule)) => show(out, heap, &rule),
         Ok(Command::ShowText(text)) => show_text(rt, out, heap, text),
+        Ok(Command::Generate(setup)) => generate(out, heap, setup),
         Err(Fault::Line(reason)) => writeln!(out, "bad line: {reason}"),
         Err(Fault::Memory) => Err(io::Error::from(AllocError)),
     }

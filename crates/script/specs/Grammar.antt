@@ -59,3 +59,15 @@ pub record NumbersAndText (line : List ℕ) (from to situations commands : ℕ) 
   pub at-situations : NumberAt line from p situations
   pub at-commands : NumberAt line p q commands
   pub at-text : TextAt line q to s
+
+-- from one place up to another there stand numbers of situations and commands, a capacity, a limit, and a rule
+pub record SetupAt (line : List ℕ) (from to situations commands capacity limit : ℕ) (house : Automaton) : Type 0 where
+  pub p : ℕ
+  pub q : ℕ
+  pub r : ℕ
+  pub t : ℕ
+  pub at-situations : NumberAt line from p situations
+  pub at-commands : NumberAt line p q commands
+  pub at-capacity : NumberAt line q r capacity
+  pub at-limit : NumberAt line r t limit
+  pub at-house : Writes line t to house

@@ -23,7 +23,7 @@ pub impl fmt::Display for BadLine as BadLineDisplay {
                 BadLine::RuleExpected => "a rule is expected",
                 BadLine::NumberMissing => "a number is missing",
                 BadLine::NotNumber => "not a number",
-                BadLine::TooLarge => "a number above 255",
+                BadLine::TooLarge => "a number too large",
                 BadLine::TooDeep => "pairs more than 1000 deep",
                 BadLine::BytesMissing => "a text is missing",
                 BadLine::NotHex => "not a hexadecimal digit",

@@ -1,9 +1,12 @@
 //! What a line of a script says.
 ghost use mathlib.Core.Path.{_≡_};
 ghost use Prim.Native.Nat.{_≤_};
-ghost use Rattle.script.specs.Grammar.{NumberAt, FreeNumbers, ReplyNumbers, Writes, TextAt, NumbersAndText};
+ghost use lib.Chars.{codes};
+ghost use lib.ListN.{length};
+ghost use Rattle.script.specs.Words.{Blank};
+ghost use Rattle.script.specs.Grammar.{NumberAt, FreeNumbers, ReplyNumbers, Writes, TextAt, NumbersAndText, SetupAt};
 ghost use Rattle.script.specs.Keywords.{Spells};
-ghost use Rattle.script.specs.Commands.{Says, Asks};
+ghost use Rattle.script.specs.Commands.{Says, Asks, word-of};
 ghost use Rattle.model.specs.Rules.{free, reply};
 ghost use Rattle.script.specs.Meaning.{meaning-of, depth};
 ghost use Rattle.script.specs.declared.parse.Fault.the-variants.{Line, Memory};
@@ -33,6 +36,8 @@ pub enum Command {
     Show(AnyRule),
     /// Read a rule text with these numbers, and show the rule.
     ShowText(Text),
+    /// Generate a controller.
+    Generate(Setup),
 }
 
 /// A rule text to read, with its numbers of situations and commands.
@@ -41,6 +46,16 @@ pub struct Text {
     pub situations: u8,
     pub commands: u8,
     pub source: Source,
+}
+
+/// What a controller is generated for: numbers of situations and commands, a capacity, a limit, and the house rule.
+#[derive(Drop)]
+pub struct Setup {
+    pub situations: u8,
+    pub commands: u8,
+    pub capacity: u16,
+    pub limit: u8,
+    pub house: AnyRule,
 }
 
 /// Why a line gave no command.
@@ -74,15 +89,25 @@ pub impl From<AllocError> for Fault as FaultFromAllocError {
     }
 }
 
-// The number that the next word denotes.
+// The number that the next word denotes, if it is not above `most`.
+fn number_to(words: &mut Words<'_>, most: u16) -> Result<u16, BadLine>
+    ensures same { λ _. ⌜ now (now (words .exit) .line) ≡ now (now (words .entry) .line) ⌝ }
+    ensures value { λ r. ⌜ made r (λ n. NumberAt (now (now (words .entry) .line)) (now (words .entry) .at) (now (words .exit) .at) n) ⌝ }
+    ensures least { λ r. ⌜ made r (λ n. n ≤ most) ⌝ }
+{
+    match words.next() {
+        Some(word) => number(word, most),
+        None => Err(BadLine::NumberMissing),
+    }
+}
+
+// The number of one byte that the next word denotes.
 fn next_number(words: &mut Words<'_>) -> Result<u8, BadLine>
     ensures same { λ _. ⌜ now (now (words .exit) .line) ≡ now (now (words .entry) .line) ⌝ }
     ensures value { λ r. ⌜ made r (λ n. NumberAt (now (now (words .entry) .line)) (now (words .entry) .at) (now (words .exit) .at) n) ⌝ }
 {
-    match words.next() {
-        Some(word) => number(word),
-        None => Err(BadLine::NumberMissing),
-    }
+    let n = number_to(words, 255)?;
+    Ok(n as u8)
 }
 
 // The words that the script language knows.
@@ -93,6 +118,7 @@ enum Keyword {
     Reply,
     Pair,
     Text,
+    Generate,
     Other,
 }
 
@@ -106,6 +132,7 @@ fn keyword_of(word: &[u8]) -> Keyword
         b"reply" => Keyword::Reply,
         b"pair" => Keyword::Pair,
         b"text" => Keyword::Text,
+        b"generate" => Keyword::Generate,
         _ => Keyword::Other,
     }
 }
@@ -152,7 +179,9 @@ fn rule(heap: Global, words: &mut Words<'_>, levels: u16) -> Result<AnyRule, Fau
             let second = rule(heap, words, levels - 1)?;
             Ok(AnyRule::pair(heap, first, second)?)
         }
-        Keyword::Show | Keyword::Text | Keyword::Other => Err(Fault::Line(BadLine::RuleExpected)),
+        Keyword::Show | Keyword::Text | Keyword::Generate | Keyword::Other => Err(Fault::Line(
+            BadLine::RuleExpected,
+        )),
     }
 }
 
@@ -199,12 +228,42 @@ fn number_comes(words: &Words<'_>) -> bool {
 // What stands behind `show`: a rule, or numbers and a text.
 fn shown(heap: Global, words: &mut Words<'_>) -> Result<Command, Fault>
     ensures same { λ _. ⌜ now (now (words .exit) .line) ≡ now (now (words .entry) .line) ⌝ }
+    ensures show { λ r. ⌜ made r (λ c. word-of c ≡ codes "show") ⌝ }
     ensures writes { λ r. ⌜ made r (λ c. Asks (now (now (words .entry) .line)) (now (words .entry) .at) (now (words .exit) .at) c) ⌝ }
 {
     if number_comes(words) {
         Ok(Command::ShowText(text_request(heap, words)?))
     } else {
         Ok(Command::Show(rule(heap, words, MOST_LEVELS)?))
+    }
+}
+
+// What stands behind `generate`.
+fn generation(heap: Global, words: &mut Words<'_>) -> Result<Setup, Fault>
+    ensures same { λ _. ⌜ now (now (words .exit) .line) ≡ now (now (words .entry) .line) ⌝ }
+    ensures writes { λ r. ⌜ made r (λ s. SetupAt (now (now (words .entry) .line)) (now (words .entry) .at) (now (words .exit) .at) (s .situations) (s .commands) (s .capacity) (s .limit) (meaning-of (s .house))) ⌝ }
+{
+    let situations = next_number(words)?;
+    let commands = next_number(words)?;
+    let capacity = number_to(words, 65535)?;
+    let limit = next_number(words)?;
+    let house = rule(heap, words, MOST_LEVELS)?;
+    Ok(Setup {
+        situations,
+        commands,
+        capacity,
+        limit,
+        house,
+    })
+}
+
+// The command, if no word comes after it.
+fn ended(words: &mut Words<'_>, command: Command) -> Result<Command, Fault>
+    ensures { λ r. ⌜ made r (λ c. (c ≡ command) × Blank (now (now (words .entry) .line)) (now (words .entry) .at) (length (now (now (words .entry) .line)))) ⌝ }
+{
+    match words.next() {
+        None => Ok(command),
+        Some(_) => Err(Fault::Line(BadLine::TextAfter)),
     }
 }
 
@@ -222,10 +281,11 @@ pub fn read_line(heap: Global, line: &[u8]) -> Result<Command, Fault>
     match keyword_of(word) {
         Keyword::Show => {
             let command = shown(heap, &mut words)?;
-            match words.next() {
-                None => Ok(command),
-                Some(_) => Err(Fault::Line(BadLine::TextAfter)),
-            }
+            ended(&mut words, command)
+        }
+        Keyword::Generate => {
+            let setup = generation(heap, &mut words)?;
+            ended(&mut words, Command::Generate(setup))
         }
         _ => Err(Fault::Line(BadLine::UnknownWord)),
     }

@@ -8,6 +8,7 @@ ghost use Rattle.script.specs.Words.{blank, Blank, Solid, WordAt, Stands, Upco
 ghost use Rattle.script.specs.Faults.{Refuses};
 ghost use Rattle.std.specs.Options.{Cases as BySome};
 ghost use Rattle.std.specs.Results.{Cases};
+ghost use Rattle.std.specs.Vec.{made};
 use crate::bad_line::BadLine;
 
 // Words are parted by spaces, tabs and carriage returns.
@@ -103,21 +104,23 @@ impl<'a> Words<'a> {
     }
 }
 
-/// The number that a word denotes in decimal digits, 0 to 255.
-pub fn number(word: &[u8]) -> Result<u8, BadLine>
-    ensures { λ r. ⌜ Cases r (λ n. Denotes (now (word .entry)) n) (λ fault. Refuses (now (word .entry)) fault) ⌝ }
+/// The number that a word denotes in decimal digits, if it is not above `most`.
+pub fn number(word: &[u8], most: u16) -> Result<u16, BadLine>
+    ensures value { λ r. ⌜ Cases r (λ n. Denotes (now (word .entry)) n) (λ fault. Refuses (now (word .entry)) most fault) ⌝ }
+    ensures least { λ r. ⌜ made r (λ n. n ≤ most) ⌝ }
 {
-    let mut n: u16 = 0;
+    let above = u32::from(most) + 1;
+    let mut n: u32 = 0;
     for digit in word {
         if !digit.is_ascii_digit() {
             return Err(BadLine::NotNumber);
         }
-        // 256 stands for every number above 255.
-        n = (n * 10 + u16::from(*digit - b'0')).min(256);
+        // `above` stands for every number that is too large.
+        n = (n * 10 + u32::from(*digit - b'0')).min(above);
     }
-    if n > 255 {
+    if n >= above {
         Err(BadLine::TooLarge)
     } else {
-        Ok(n as u8)
+        Ok(n as u16)
     }
 }
