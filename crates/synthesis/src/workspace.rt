@@ -3,6 +3,7 @@
 ghost use Prim.Native.Nat.{_≤_};
 ghost use mathlib.Core.Path.{_≡_};
 ghost use Rattle.std.specs.Of.Vec.{vec-items, vec-len};
+ghost use Rattle.std.specs.Vec.{made};
 use crate::position::Position;
 use crate::state::State;
 use std::alloc::AllocError;
@@ -47,7 +48,9 @@ pub struct Workspace {
 
 impl Workspace {
     /// All tables at once, or none if there is no memory for one of them.
-    pub fn new(heap: Global) -> Result<Workspace, AllocError> {
+    pub fn new(heap: Global) -> Result<Workspace, AllocError>
+        ensures { λ r. ⌜ made r (λ w. vec-len (w .states) ≡ 1024) ⌝ }
+    {
         let met = vec![in heap; NO_POSITION; 1024]?;
         let waiting = vec![in heap; NO_POSITION; 1024]?;
         let links = vec![in heap; 0u16; 65536]?;
