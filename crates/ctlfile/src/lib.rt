@@ -1,5 +1,7 @@
 //! The controller file: checks any bytes, and writes the file of a controller.
 
+#![tactic(auto)]
+
 pub mod agreement;
 pub mod certificate;
 pub mod checking;

@@ -1,4 +1,7 @@
 //! Answers a script about rules, line by line. The script is standard input, or the file that the one argument names.
+
+#![tactic(auto)]
+
 ghost use Rattle.std.specs.Prelude.{◌≡◌, ◌<◌, None};
 ghost use Rattle.script.specs.Meaning.{meaning_of};
 ghost use Rattle.ragtimuwen.specs.Solvable.{Solvable};

@@ -1,5 +1,7 @@
 //! Rules as values that answer questions: the built-in rules free and reply, the pair of any two rules, and lists of a rule's states.
 
+#![tactic(auto)]
+
 pub mod builtin;
 pub mod lists;
 pub mod pair;

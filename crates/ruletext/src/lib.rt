@@ -1,5 +1,7 @@
 //! Reads a rule from its text, or says what is wrong with the text and where.
 
+#![tactic(auto)]
+
 pub mod line;
 pub mod range;
 pub mod reach;

@@ -1,5 +1,7 @@
 //! The script language of the program: its lines, words and commands, and the rules that a script can write.
 
+#![tactic(auto)]
+
 pub mod bad_line;
 pub mod bytes;
 pub mod lines;
