@@ -47,6 +47,18 @@ def declared():
     return names
 
 
+def lent():
+    """The names that come from libraries."""
+    names = set()
+    for path in files(".antt", ".rt"):
+        for line in read(path).splitlines():
+            m = re.match(r"(?:pub )?(?:ghost )?use ([^\s{]+)\.\{(.*)\}", line)
+            crate = m and re.match(r"Rattle\.(\w+)", m.group(1))
+            if m and not (crate and os.path.isdir(os.path.join("crates", crate.group(1)))):
+                names.update(part.split(" as ")[0].strip() for part in m.group(2).split(","))
+    return names
+
+
 def respelled(name):
     if name in OTHERWISE:
         return OTHERWISE[name]
@@ -56,7 +68,7 @@ def respelled(name):
 
 
 def turns():
-    own = declared()
+    own = declared() - lent()
     found = {n: respelled(n) for n in own if ("-" in n or "′" in n) and not MADE.match(n) and not n.startswith(("◌", "-"))}
     found = {n: t for n, t in found.items() if re.fullmatch(r"[\w'‐-]+", n.replace("′", "'"))}
     taken = sorted(n for n, t in found.items() if t in own)

@@ -1,6 +1,6 @@
 -- Whenever a controller is stored, it is the best for the rules on the sheet, and the file that write puts down is accepted.
 use Rattle.std.proofs.Common.{◌≡◌, ℕ, ◌<◌, ◌≤◌, List, [], ◌∷◌, ◌++◌, map, length, get_or, take, drop, sym, refl, ap, ◌∙◌, subst, subst₂, arith}
-use mathlib.Core.List.{map_map}
+use mathlib.Core.List.{map-map}
 use mathlib.Core.Option.{Option, none, some}
 use Rattle.std.specs.List.{range_with_len}
 use Rattle.std.proofs.lemmas.List.{take_at, ext_get_or}
@@ -152,7 +152,7 @@ module _ (s : Sheet) (h : Sound s) (k : Stored) (c : Kept s k) where
   line_same P i e l =
       let g : P ≡ map (λ q. mark P q) (range_with_len 0 B.states) = fill_by_all (λ q. mark P q) P B.states 0 l (λ q hq. refl) in
       ap (λ (Q : Position). map (λ q. tally_byte (mark Q q)) (range_with_len 0 B.states)) e
-      ∙ sym (map_map tally_byte (mark P) (range_with_len 0 B.states))
+      ∙ sym (map-map tally_byte (mark P) (range_with_len 0 B.states))
       ∙ ap (map tally_byte) (sym g)
 
   wf : WellFormed B K

@@ -19,7 +19,7 @@ use Rattle.synthesis.proofs.Showing.{present_cut}
 use Rattle.synthesis.proofs.Pruned.{flag_inside}
 use Rattle.synthesis.proofs.Flags.{link_to, holding_holds, holds_holding, choice_is}
 use Rattle.synthesis.proofs.Lowest.{under_holding, holding_under}
-use Rattle.synthesis.proofs.Making.{map_map, map_like}
+use Rattle.synthesis.proofs.Making.{map-map, map_like}
 
 abbrev Told : (ℕ → Bool) → ℕ → ℕ → Option ℕ → Type 0
 Told f a n None = (u : ℕ) → a ≤ u → u < a + n → f u ≡ false
@@ -131,7 +131,7 @@ module _ (A : Automaton) (c : ℕ) (L : List Position) (links : List ℕ) (table
       let u = p.command in
       ap {B = List Position} (λ v. map (λ x. step A v x (at h)) (range_with_len 0 A.situations)) p.is_model
       ∙ map_like (λ x. step A u x (at h)) (λ x. at (link links h u x)) (range_with_len 0 A.situations) (λ x i. sym (step_at h x g (below x i)))
-      ∙ sym (map_map (link links h u) at (range_with_len 0 A.situations))
+      ∙ sym (map-map (link links h u) at (range_with_len 0 A.situations))
       ∙ ap {B = List Position} (map at) (sym (around_at h g))
 
   pub stays : (h : ℕ) → Good h → All Good (neighbours 8 go_on h)
@@ -175,4 +175,4 @@ module _ (A : Automaton) (c : ℕ) (L : List Position) (links : List ℕ) (table
       let m = subst (λ v. Link eqb T v (get_or nexts (s * 8 + x) 0)) o k in
       ap {B = ℕ} (place same (map at T)) (sym (step_at h x g hx)) ∙ place_carried T l (p.holding x hx) good ∙ sym m.0 in
       ap {B = Row} (λ v. record { command = v; nexts = map (place same (map at T)) (map (λ x. step A v x (at h)) xs) }) p.is_model
-      ∙ ap {B = Row} (λ l. record { command = u; nexts = l }) (map_map (λ x. step A u x (at h)) (place same (map at T)) xs ∙ map_like (λ x. place same (map at T) (step A u x (at h))) (λ x. get_or nexts (s * 8 + x) 0) xs each)
+      ∙ ap {B = Row} (λ l. record { command = u; nexts = l }) (map-map (λ x. step A u x (at h)) (place same (map at T)) xs ∙ map_like (λ x. place same (map at T) (step A u x (at h))) (λ x. get_or nexts (s * 8 + x) 0) xs each)

@@ -14,7 +14,7 @@ use Rattle.synthesis.specs.Surveys.{shown}
 use Rattle.synthesis.specs.Control.{standing, Controlled}
 use Rattle.synthesis.specs.Answers.{row_of, position_of, StandsAt, Stores, Answered}
 use Rattle.synthesis.proofs.Agreeing.{solves_alike}
-use Rattle.synthesis.proofs.Making.{map_map}
+use Rattle.synthesis.proofs.Making.{map-map}
 
 map_pointwise : {X Y Z : Type 0} (f : X → Z) (g : Y → Z) (xs : List X) (ys : List Y) (a : X) (b : Y) → length xs ≡ length ys
     → ((k : ℕ) → k < length xs → f (get_or xs k a) ≡ g (get_or ys k b)) → map f xs ≡ map g ys
@@ -70,7 +70,7 @@ module _ (A : Automaton) (c len : ℕ) (slots : List Slot) (safe : List Bool) (n
       (λ k l.
       let lk : k < n = omega (arith, l, count_states) in
       ap {B = Row} (row_of A.situations) (get_or-take n states k nowhere lk) ∙ row_stored k lk ∙ ap {B = Row} (λ h. row_at A R held (at h)) (sym (get_or-take n places k 0 lk)))
-      ∙ sym (map_map at (row_at A R held) (take n places))
+      ∙ sym (map-map at (row_at A R held) (take n places))
       ∙ ap {B = List Row} (λ v. map (row_at A R v) v) (sym em) in
       let positions-same : map (position_of A.states) (take n states) ≡ met =
       map_pointwise (position_of A.states) at (take n states) (take n places) nowhere 0 (count_states ∙ sym count_places)
