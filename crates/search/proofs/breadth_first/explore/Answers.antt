@@ -118,10 +118,10 @@ loop-node-smaller g c = let h = early g (goal.at.loop-node-smaller g c).In-Some 
 pub loop-node-preserved : goal.loop-node-preserved
 loop-node-preserved g c =
     let len = c.loop-node.len in
-    let to = c.in-ok-more.more in
+    let to = c.in_ok-more.more in
     let met = c.spread.new.met in
     let popped = c.in-Some.ensures in
-    let spread = c.in-ok-more.ensures in
+    let spread = c.in_ok-more.ensures in
     let le = more g (goal.at.loop-node-preserved g c).In-ok-more in
     let same-slots : length c.pop.new.self.slots.now ≡ length c.loop-node.queue.slots.now = let e = popped.slots in cc in
     let few : to ≤ length (set c.args.met.now 0 c.args.first.now) = omega (arith, spread.nodes.0, c.spread.auto.met, c.loop-node.invariant.0) in (
@@ -146,7 +146,7 @@ returns g c =
     let last =
     turning_last (g.G.Graph.same c.args.graph.now) (g.G.Graph.degree c.args.graph.now) (g.G.Graph.successor c.args.graph.now) (length (set c.args.met.now 0 c.args.first.now)) c.args.first.now
     (take c.loop-node.len c.loop-node.met) (waiting c.loop-node.queue.slots.now c.loop-node.queue.head c.loop-node.queue.len) c.loop-node.links c.loop-node.row
-    c.loop-node.invariant.2 c.in-default.ensures.popped.0 in
+    c.loop-node.invariant.2 c.in_default.ensures.popped.0 in
     record {
       nodes = (omega (arith, c.loop-node.invariant.2.some_met, l), omega (arith, c.loop-node.invariant.0, c.loop-node.invariant.1), rw n at last.0);
       links = rw l at last.1;

@@ -8,7 +8,7 @@ use Rattle.search.proofs.breadth_first.spread.Given as given
 use Rattle.search.proofs.breadth_first.spread.Goals as goal
 
 -- the link lies in the row
-in_row : (g : given.Over) (c : goal.In-ok-next g) → c.args.row * c.degree-degree.result + c.loop-i.i < length c.loop-i.links
+in_row : (g : given.Over) (c : goal.In_ok-next g) → c.args.row * c.degree-degree.result + c.loop-i.i < length c.loop-i.links
 in_row g c =
     let rows : length c.args.met.now * c.degree-degree.result ≤ length c.loop-i.links =
     subst (λ n. length c.args.met.now * n ≤ length c.loop-i.links) (sym c.degree-degree.ensures) (omega (arith, c.requires.rows, c.loop-i.auto.links)) in
@@ -51,9 +51,9 @@ loop-i-preserved g c =
     let row = c.args.row in
     let i = c.loop-i.i in
     let met = take c.loop-i.count c.loop-i.met in
-    let next = c.in-ok-next.next in
+    let next = c.in_ok-next.next in
     let met' = take next.len c.meet.new.met in
-    let m = c.in-ok-next.ensures in
+    let m = c.in_ok-next.ensures in
     let e = c.degree-degree.ensures in
     let s = c.successor.ensures in
     let em : met' ≡ with_met same met (successor node i) = let n = m.0.1 in cc in

@@ -12,6 +12,6 @@ returns g c =
     let item = c.args.item in
     let at = λ (n : ℕ). waiting (set slots n item) head (len + 1) in
     elim c.if-len-behind.branch [
-      | then-len-behind w ↦ ap at w.at_is ∙ put_before slots head len item (omega arith)
-      | else-len-behind w ↦ ap at w.at_is ∙ put_round slots head len item (omega arith) (omega arith) (omega arith)
+      | then-len-behind w ↦ ap at w.at-is ∙ put_before slots head len item (omega arith)
+      | else-len-behind w ↦ ap at w.at-is ∙ put_round slots head len item (omega arith) (omega arith) (omega arith)
     ]
