@@ -6,7 +6,7 @@ use Rattle.search.proofs.Ring.{length_waiting, none_waiting}
 use Rattle.search.proofs.Turns.{Turn, longer, turning_first, turn, turning_last}
 use Rattle.search.proofs.breadth_first.explore.Given as given
 use Rattle.search.proofs.breadth_first.explore.Goals as goal
-use Rattle.search.proofs.breadth_first.explore.Goals.{In-Some, In-ok-more}
+use Rattle.search.proofs.breadth_first.explore.Goals.{In-Some, In_ok-more}
 
 pub loop-node-init : goal.loop-node-init
 loop-node-init g c =
@@ -48,15 +48,15 @@ early : (g : given.Over) (c : In-Some g) → c.loop-node.row < c.loop-node.len
 early g c = omega (arith, met_now g c, (turn_now g c).early)
 
 -- and how many after it
-met_then : (g : given.Over) (c : In-ok-more g) → length (take c.in-ok-more.more c.spread.new.met) ≡ c.in-ok-more.more
-met_then g c = length-take-le c.in-ok-more.more c.spread.new.met c.in-ok-more.ensures.nodes.0
+met_then : (g : given.Over) (c : In_ok-more g) → length (take c.in_ok-more.more c.spread.new.met) ≡ c.in_ok-more.more
+met_then g c = length-take-le c.in_ok-more.more c.spread.new.met c.in_ok-more.ensures.nodes.0
 
-more : (g : given.Over) (c : In-ok-more g) → c.loop-node.len ≤ c.in-ok-more.more
+more : (g : given.Over) (c : In_ok-more g) → c.loop-node.len ≤ c.in_ok-more.more
 more g c =
     let n = length-take-le c.loop-node.len c.loop-node.met (omega (arith, c.loop-node.invariant.0, c.loop-node.invariant.1)) in
     let l =
     longer (g.G.Graph.same c.args.graph.now) (g.G.Graph.degree c.args.graph.now) (g.G.Graph.successor c.args.graph.now)
-    (take c.loop-node.len c.loop-node.met) (take c.in-ok-more.more c.spread.new.met) c.in-Some.node c.in-ok-more.ensures.nodes.1 in
+    (take c.loop-node.len c.loop-node.met) (take c.in_ok-more.more c.spread.new.met) c.in-Some.node c.in_ok-more.ensures.nodes.1 in
     omega (arith, met_then g c)
 
 pub spread-requires : goal.spread-requires
@@ -72,33 +72,33 @@ spread-requires g c =
       linked = c.loop-node.invariant.2.linked;
     }
 
-pub shape-of-met-in-err-more : goal.shape-of-met-in-err-more
-shape-of-met-in-err-more g c = c.spread.auto.met ∙ c.loop-node.invariant.0 ∙ length-set c.args.met.now 0 c.args.first.now
+pub shape_of-met-in_err-more : goal.shape_of-met-in_err-more
+shape_of-met-in_err-more g c = c.spread.auto.met ∙ c.loop-node.invariant.0 ∙ length-set c.args.met.now 0 c.args.first.now
 
-pub returns-in-err-more : goal.returns-in-err-more
-returns-in-err-more g c =
+pub returns-in_err-more : goal.returns-in_err-more
+returns-in_err-more g c =
     let n = length-set c.args.met.now 0 c.args.first.now in
     let l = c.spread.auto.met ∙ c.loop-node.invariant.0 in
-    let over = (turn_now g (goal.at.returns-in-err-more g c).In-Some).over (rw l at c.in-err-more.ensures.nodes) in
-    rw c.from-residual.ensures (record { nodes = rw n at over; links = tt })
+    let over = (turn_now g (goal.at.returns-in_err-more g c).In-Some).over (rw l at c.in_err-more.ensures.nodes) in
+    rw c.from_residual.ensures (record { nodes = rw n at over; links = tt })
 
-pub slice-bounds-push-all-count : goal.slice-bounds-push-all-count
-slice-bounds-push-all-count g c = more g (goal.at.slice-bounds-push-all-count g c).In-ok-more
+pub slice_bounds-push_all-count : goal.slice_bounds-push_all-count
+slice_bounds-push_all-count g c = more g (goal.at.slice_bounds-push_all-count g c).In_ok-more
 
-pub slice-bounds-push-all-start : goal.slice-bounds-push-all-start
-slice-bounds-push-all-start g c = more g (goal.at.slice-bounds-push-all-start g c).In-ok-more
+pub slice_bounds-push_all-start : goal.slice_bounds-push_all-start
+slice_bounds-push_all-start g c = more g (goal.at.slice_bounds-push_all-start g c).In_ok-more
 
-pub push-all-requires : goal.push-all-requires
-push-all-requires g c =
+pub push_all-requires : goal.push_all-requires
+push_all-requires g c =
     let len = c.loop-node.len in
-    let to = c.in-ok-more.more in
+    let to = c.in_ok-more.more in
     let met = c.spread.new.met in
     let popped = c.in-Some.ensures in
-    let le = more g (goal.at.push-all-requires g c).In-ok-more in
-    let now = met_now g (goal.at.push-all-requires g c).In-Some in
-    let few = (turn_now g (goal.at.push-all-requires g c).In-Some).few in
+    let le = more g (goal.at.push_all-requires g c).In_ok-more in
+    let now = met_now g (goal.at.push_all-requires g c).In-Some in
+    let few = (turn_now g (goal.at.push_all-requires g c).In-Some).few in
     let queued = length_waiting c.pop.new.self.slots.now c.pop.new.self.head c.pop.new.self.len popped.fits in
-    let last : to ≤ length met = c.in-ok-more.ensures.nodes.0 in
+    let last : to ≤ length met = c.in_ok-more.ensures.nodes.0 in
     let same-slots : length c.pop.new.self.slots.now ≡ length c.loop-node.queue.slots.now = let e = popped.slots in cc in
     let new : length (take (to - len) (drop len met)) ≡ to - len = length-take-le (to - len) (drop len met) (simp length-drop (omega arith)) in
     record {
@@ -106,9 +106,9 @@ push-all-requires g c =
       room = omega (arith, c.loop-node.invariant.4, c.spread.auto.met, c.loop-node.invariant.0);
     }
 
-pub overflow-add-row : goal.overflow-add-row
-overflow-add-row g c =
-    let h = early g (goal.at.overflow-add-row g c).In-Some in
+pub overflow_add-row : goal.overflow_add-row
+overflow_add-row g c =
+    let h = early g (goal.at.overflow_add-row g c).In-Some in
     let n = length-set c.args.met.now 0 c.args.first.now in
     omega (arith, c.loop-node.invariant.1)
 
@@ -122,22 +122,22 @@ loop-node-preserved g c =
     let met = c.spread.new.met in
     let popped = c.in-Some.ensures in
     let spread = c.in_ok-more.ensures in
-    let le = more g (goal.at.loop-node-preserved g c).In-ok-more in
+    let le = more g (goal.at.loop-node-preserved g c).In_ok-more in
     let same-slots : length c.pop.new.self.slots.now ≡ length c.loop-node.queue.slots.now = let e = popped.slots in cc in
     let few : to ≤ length (set c.args.met.now 0 c.args.first.now) = omega (arith, spread.nodes.0, c.spread.auto.met, c.loop-node.invariant.0) in (
       c.spread.auto.met ∙ c.loop-node.invariant.0,
       few,
-      rw c.push-all.ensures.pushed
+      rw c.push_all.ensures.pushed
           ((turn_now g (goal.at.loop-node-preserved g c).In-Some).more (take to met) (take (to - len) (drop len met)) c.spread.new.links spread.nodes.1
-          (rw (met_then g (goal.at.loop-node-preserved g c).In-ok-more) few)
+          (rw (met_then g (goal.at.loop-node-preserved g c).In_ok-more) few)
           (part met (take len c.loop-node.met) len to (met_now g (goal.at.loop-node-preserved g c).In-Some) le)
           spread.links),
-      c.push-all.ensures.fits,
-      omega (arith, c.push-all.ensures.slots, c.loop-node.invariant.4),
+      c.push_all.ensures.fits,
+      omega (arith, c.push_all.ensures.slots, c.loop-node.invariant.4),
     )
 
-pub shape-of-met : goal.shape-of-met
-shape-of-met g c = c.loop-node.invariant.0 ∙ length-set c.args.met.now 0 c.args.first.now
+pub shape_of-met : goal.shape_of-met
+shape_of-met g c = c.loop-node.invariant.0 ∙ length-set c.args.met.now 0 c.args.first.now
 
 pub returns : goal.returns
 returns g c =

@@ -23,8 +23,8 @@ loop-i-init g c =
           c.requires.here (omega (arith, length-take-le len met c.requires.within)) c.requires.linked,
     )
 
-pub returns-in-err-next : goal.returns-in-err-next
-returns-in-err-next g c =
+pub returns-in_err-next : goal.returns-in_err-next
+returns-in_err-next g c =
     let same = g.G.Graph.same c.args.graph.now in
     let degree = g.G.Graph.degree c.args.graph.now in
     let successor = g.G.Graph.successor c.args.graph.now c.args.node.now in
@@ -32,14 +32,14 @@ returns-in-err-next g c =
     let i = c.loop-i.i in
     let e : with_met same (take c.loop-i.count c.loop-i.met) c.successor.result ≡ with_met same (fold (with_met same) before (map successor (range_with_len 0 i))) (successor i) =
     let s = c.successor.ensures in let m = c.loop-i.invariant.1.met in cc in
-    let over = over_all same successor (length c.meet.new.met) degree i before (omega (arith, c.degree-degree.ensures)) (rw e at c.in-err-next.ensures) in
-    rw c.from-residual.ensures (record { nodes = over; links = tt })
+    let over = over_all same successor (length c.meet.new.met) degree i before (omega (arith, c.degree-degree.ensures)) (rw e at c.in_err-next.ensures) in
+    rw c.from_residual.ensures (record { nodes = over; links = tt })
 
 pub bounds-links-from : goal.bounds-links-from
 bounds-links-from g c = in_row g c
 
-pub offset-bounds-links-from : goal.offset-bounds-links-from
-offset-bounds-links-from g c = let h = in_row g c in omega arith
+pub offset_bounds-links-from : goal.offset_bounds-links-from
+offset_bounds-links-from g c = let h = in_row g c in omega arith
 
 pub loop-i-preserved : goal.loop-i-preserved
 loop-i-preserved g c =

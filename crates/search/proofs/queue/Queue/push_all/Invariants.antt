@@ -7,4 +7,4 @@ invariant-loop-item g l =
     (waiting l.self.slots.now l.self.head l.self.len ≡ waiting l.initial.self.slots.now l.initial.self.head l.initial.self.len ++ take l.item-index l.items)
     × Fits l.self.slots.now l.self.head l.self.len
     × (length l.self.slots.now ≡ length l.initial.self.slots.now)
-    × (l.self.slots.name ≡ l.initial.self.slots.name)
+    × (l.self.slots.ghost_name ≡ l.initial.self.slots.ghost_name)
