@@ -4,26 +4,26 @@ use Rattle.ruletext.proofs.Loops.{through_more, through_wrong, through_end, thro
 use Rattle.ruletext.proofs.line.digits.Goals as goal
 use Rattle.ruletext.proofs.line.digits.Goals.{then-loop-end-test+else-text-end-ne10, else-loop-end-test}
 
-pub returns-in-err-next : goal.returns-in-err-next
-returns-in-err-next c =
-    let p = err_from_is_err_and c.from-residual.result c.from-residual.ensures.1 in
-    rw (p.1, p.2) (c.in-err-next.ensures.0, through_wrong c.args.text.now c.args.at c.loop-end.end c.loop-end.invariant c.in-err-next.field-0.0.byte c.loop-end-test.true c.if-text-end-ne10.true c.in-err-next.ensures.1)
+pub returns-in_err-next : goal.returns-in_err-next
+returns-in_err-next c =
+    let p = err_from_is_err_and c.from_residual.result c.from_residual.ensures.1 in
+    rw (p.1, p.2) (c.in_err-next.ensures.0, through_wrong c.args.text.now c.args.at c.loop-end.end c.loop-end.invariant c.in_err-next.field-0.0.byte c.loop-end-test.true c.if-text-end-ne10.true c.in_err-next.ensures.1)
 
 pub loop-end-preserved : goal.loop-end-preserved
-loop-end-preserved c = through_more c.args.text.now c.args.at c.loop-end.end c.loop-end.invariant c.in-ok-next.field-0-0 c.in-ok-next.next c.in-ok-next.ensures.1
+loop-end-preserved c = through_more c.args.text.now c.args.at c.loop-end.end c.loop-end.invariant c.in_ok-next.field-0-0 c.in_ok-next.next c.in_ok-next.ensures.1
 
-pub returns-in-err-behind : goal.returns-in-err-behind
-returns-in-err-behind c =
-    let p = err_from_is_err_and c.from-residual-in-err-behind.result c.from-residual-in-err-behind.ensures.1 in
+pub returns-in_err-behind : goal.returns-in_err-behind
+returns-in_err-behind c =
+    let p = err_from_is_err_and c.from_residual-in_err-behind.result c.from_residual-in_err-behind.ensures.1 in
     rw (p.1, p.2) (
-      c.in-err-behind.ensures.0,
-      through_none c.args.text.now c.args.at c.loop-end.end c.loop-end.invariant c.in-err-behind.field-0.0.byte
+      c.in_err-behind.ensures.0,
+      through_none c.args.text.now c.args.at c.loop-end.end c.loop-end.invariant c.in_err-behind.field-0.0.byte
           (elim c.loop-end-test.branch [ then-loop-end-test+else-text-end-ne10 w ↦ inr w.if-text-end-ne10.false | else-loop-end-test w ↦ inl w.loop-end-test.false ])
-          c.in-err-behind.ensures.1,
+          c.in_err-behind.ensures.1,
     )
 
 pub returns : goal.returns
 returns c = (
-  c.in-ok-behind.ensures.0,
-  through_end c.args.text.now c.args.at c.loop-end.end c.loop-end.invariant c.in-ok-behind.field-0-0 c.in-ok-behind.behind c.in-ok-behind.ensures.1,
+  c.in_ok-behind.ensures.0,
+  through_end c.args.text.now c.args.at c.loop-end.end c.loop-end.invariant c.in_ok-behind.field-0-0 c.in_ok-behind.behind c.in_ok-behind.ensures.1,
 )

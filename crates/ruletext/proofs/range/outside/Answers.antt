@@ -15,8 +15,8 @@ returns-then-value-states c =
     sym (c.loop-left.invariant.0 ∙ ap (λ z. first_outside (state_numbers c.args.states c.loop-left.byte z)) (states_two left (omega (arith, ltb-false)))
     ∙ outside_here c.args.states c.loop-left.byte (get_or left 1 0 - 48) (states_of (take (length left - 2) (drop 2 left))) (omega arith))
 
-pub overflow-add-byte : goal.overflow-add-byte
-overflow-add-byte c =
+pub overflow_add-byte : goal.overflow_add-byte
+overflow_add-byte c =
     let left = c.loop-left.left.now in
     let e = ap length (states_two left (omega (arith, ltb-false))) in
     omega (arith, c.loop-left.invariant.1)

@@ -6,6 +6,6 @@ use Rattle.ruletext.proofs.so_far.add_rejecting.Goals as goal
 pub mark-requires : goal.mark-requires
 mark-requires c =
     λ q i.
-    let h = states_below c.args.states 2 (states_in c.args.rejects.states) (sym c.in-default.ensures) q i in
+    let h = states_below c.args.states 2 (states_in c.args.rejects.states) (sym c.in_default.ensures) q i in
     let k = c.args.table.now.sized.0 in
     omega arith

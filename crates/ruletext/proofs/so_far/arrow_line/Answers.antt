@@ -7,8 +7,8 @@ use Rattle.ruletext.specs.Standing.{step, Drafted}
 use Rattle.ruletext.proofs.Going.{t_length, step_on, arrows_drafted}
 use Rattle.ruletext.proofs.so_far.arrow_line.Goals as goal
 
-pub add-arrows-requires : goal.add-arrows-requires
-add-arrows-requires c =
+pub add_arrows-requires : goal.add_arrows-requires
+add_arrows-requires c =
     let a = arrows_of c.in-Arrows.arrows in
     let h = subst (λ w. length (line_bytes (line_of w)) ≤ 4096) c.in-Arrows.is c.requires.1.1.1 in
     (c.requires.0, (c.requires.1.0, (c.requires.1.1.0, t_length a h)))
@@ -23,8 +23,8 @@ returns c =
     let C = c.args.commands in
     let a = arrows_of c.in-Arrows.arrows in
     let t = c.args.table.now in
-    let after = c.add-arrows.new.table in
-    let held = c.in-ok-add-arrows.ensures.held in
+    let after = c.add_arrows.new.table in
+    let held = c.in_ok-add_arrows.ensures.held in
     λ m standing.
     let r = standing.0 in
     let d = standing.2 in (
@@ -34,6 +34,6 @@ returns c =
       (
         with_arrows r a,
         refl,
-        arrows_drafted S C name n q t.rejecting after.rejecting t.arrows after.arrows r a d held.0 held.1 c.in-ok-add-arrows.ensures.same,
+        arrows_drafted S C name n q t.rejecting after.rejecting t.arrows after.arrows r a d held.0 held.1 c.in_ok-add_arrows.ensures.same,
       ),
     )

@@ -6,8 +6,8 @@ use Rattle.ruletext.specs.Standing.{step}
 use Rattle.ruletext.proofs.Going.{r_length, step_on, rejecting_drafted}
 use Rattle.ruletext.proofs.so_far.rejecting_line.Goals as goal
 
-pub add-rejecting-requires : goal.add-rejecting-requires
-add-rejecting-requires c =
+pub add_rejecting-requires : goal.add_rejecting-requires
+add_rejecting-requires c =
     (c.requires.0, r_length (states_in c.in-Rejects.rejects.states) (subst (λ w. length (line_bytes (line_of w)) ≤ 4096) c.in-Rejects.is c.requires.1))
 
 pub returns : goal.returns
@@ -18,8 +18,8 @@ returns c =
     let line = c.args.line in
     let qs = states_in c.in-Rejects.rejects.states in
     let t = c.args.table.now in
-    let after = c.add-rejecting.new.table in
-    let held = c.in-ok-add-rejecting.ensures.held in
+    let after = c.add_rejecting.new.table in
+    let held = c.in_ok-add_rejecting.ensures.held in
     let r : TextRule = record { name = name; states = n; start = q; rejecting = qs; arrows = [] } in
     λ S C m standing. (
       full r,
@@ -29,6 +29,6 @@ returns c =
         r,
         refl,
         rejecting_drafted S C name n q t.rejecting after.rejecting t.arrows after.arrows qs standing.1 standing.2 standing.3 standing.4 standing.5 held.0 held.1
-            c.in-ok-add-rejecting.ensures.same,
+            c.in_ok-add_rejecting.ensures.same,
       ),
     )

@@ -25,11 +25,11 @@ returns-in-Sized c =
     let S = c.args.situations in
     let C = c.args.commands in
     let t = c.args.table.now in
-    λ m good standing. c.rejecting-line.ensures S C m (subst (λ z. Standing S C z t.rejecting t.arrows m) c.in-Sized.is standing)
+    λ m good standing. c.rejecting_line.ensures S C m (subst (λ z. Standing S C z t.rejecting t.arrows m) c.in-Sized.is standing)
 
 pub returns-in-Full : goal.returns-in-Full
 returns-in-Full c =
     let S = c.args.situations in
     let C = c.args.commands in
     let t = c.args.table.now in
-    λ m good standing. c.arrow-line.ensures m (subst (λ z. Standing S C z t.rejecting t.arrows m) c.in-Full.is standing)
+    λ m good standing. c.arrow_line.ensures m (subst (λ z. Standing S C z t.rejecting t.arrows m) c.in-Full.is standing)

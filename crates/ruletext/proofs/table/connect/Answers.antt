@@ -18,7 +18,7 @@ loop-u-preserved c =
     elim c.if-takes.branch [
       | then-takes w ↦
           all_more a S before old u c.loop-u.invariant c.if-takes.arrows (sym c.takes.ensures ∙ w.if-takes.true)
-          (subst (λ z. Adds old z (under_command a u S)) (sym w.arrows-is) w.connect-under.ensures)
+          (subst (λ z. Adds old z (under_command a u S)) (sym w.arrows-is) w.connect_under.ensures)
       | else-takes w ↦
           subst (λ z. Adds before z (under_commands a (u + 1) S)) (sym w.arrows-is)
           (all_same a S before old u c.loop-u.invariant (sym c.takes.ensures ∙ w.if-takes.false))

@@ -17,7 +17,7 @@ loop-x-preserved c =
       | then-takes w ↦
           under_more a c.args.command c.args.arrows.now old x c.loop-x.invariant c.if-takes.arrows (omega arith) (omega arith) (omega arith) c.requires.1.1.1.1
           (sym c.takes.ensures ∙ w.if-takes.true)
-          (λ k. ap (λ z. get_or z k false) w.arrows-is ∙ w.mark.ensures k ∙ ap (λ z. get_or old k false || shifted z (states_in c.args.line.to) k) w.place-of.ensures)
+          (λ k. ap (λ z. get_or z k false) w.arrows-is ∙ w.mark.ensures k ∙ ap (λ z. get_or old k false || shifted z (states_in c.args.line.to) k) w.place_of.ensures)
       | else-takes w ↦
           subst (λ z. Adds c.args.arrows.now z (under_command a c.args.command (x + 1))) (sym w.arrows-is)
           (under_same a c.args.command c.args.arrows.now old x c.loop-x.invariant (sym c.takes.ensures ∙ w.if-takes.false))

@@ -16,8 +16,8 @@ here c =
     let i = c.loop-left.invariant.1 (get_or left 1 0 - 48) (subst (λ z. In z (get_or left 1 0 - 48)) (sym (states_two left (omega (arith, ltb-false)))) (inl refl)) in
     omega arith
 
-pub overflow-add-marks : goal.overflow-add-marks
-overflow-add-marks c = let h = here c in omega arith
+pub overflow_add-marks : goal.overflow_add-marks
+overflow_add-marks c = let h = here c in omega arith
 
 pub bounds-marks-first : goal.bounds-marks-first
 bounds-marks-first c = here c

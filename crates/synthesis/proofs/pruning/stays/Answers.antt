@@ -22,9 +22,9 @@ returns-else-not-safe-place c =
     let S = c.args.numbers.situations in
     let links = c.args.links.now in
     let t = flag c.args.safe.now in
-    let o = c.lowest-command.result in
-    let told = c.lowest-command.ensures.lowest in
+    let o = c.lowest_command.result in
+    let told = c.lowest_command.ensures.lowest in
     record {
-      kept = λ e _. some_keeps C S links t c.args.place o told (sym c.is-some.ensures ∙ e);
-      lost = λ e. (c.if-not-safe-place.false, none_keeps C S links t c.args.place o told (sym c.is-some.ensures ∙ e));
+      kept = λ e _. some_keeps C S links t c.args.place o told (sym c.is_some.ensures ∙ e);
+      lost = λ e. (c.if-not-safe-place.false, none_keeps C S links t c.args.place o told (sym c.is_some.ensures ∙ e));
     }

@@ -13,9 +13,9 @@ returns g c =
     let agrees = c.gather-arrows.ensures.agrees in
     let some : 0 < B.commands = omega (arith, agrees.commands, c.gather-arrows.ensures.some) in
     let capacity = c.args.capacity in
-    let last = c.solve-table.new.states in
+    let last = c.solve_table.new.states in
     let long : length last ≡ c.args.workspace.now.states.len = omega arith in
-    let size : length (take (capacity - 0) c.as-mut-slice.result.now) ≡ capacity = length-take-le (capacity - 0) c.as-mut-slice.result.now (omega arith) ∙ omega arith in
-    answered_alike A B agrees some capacity c.args.limit c.solve-table.result _
-    (subst (λ xs. Answered A capacity c.args.limit c.solve-table.result xs) (sym (take_at last _ c.args.workspace.now.states.len long))
-    (subst (λ n. Answered A n c.args.limit c.solve-table.result last) size c.solve-table.ensures))
+    let size : length (take (capacity - 0) c.as_mut_slice.result.now) ≡ capacity = length-take-le (capacity - 0) c.as_mut_slice.result.now (omega arith) ∙ omega arith in
+    answered_alike A B agrees some capacity c.args.limit c.solve_table.result _
+    (subst (λ xs. Answered A capacity c.args.limit c.solve_table.result xs) (sym (take_at last _ c.args.workspace.now.states.len long))
+    (subst (λ n. Answered A n c.args.limit c.solve_table.result last) size c.solve_table.ensures))

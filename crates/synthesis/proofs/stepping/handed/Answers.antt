@@ -8,16 +8,16 @@ pub returns-then-most-gt0 : goal.returns-then-most-gt0
 returns-then-most-gt0 c =
     let A = automaton c.args.arrows.now in
     let w = weight A c.args.follower in
-    let most = c.largest-before-most.result in
+    let most = c.largest_before-most.result in
     ap {B = ℕ} (λ v. most + v) c.weight.ensures.value
     ∙ sym (grown_present w most c.if-most-gt0.true)
-    ∙ ap {B = ℕ} (grown w) c.largest-before-most.ensures
+    ∙ ap {B = ℕ} (grown w) c.largest_before-most.ensures
     ∙ sym (largest_grown A c.args.command c.args.situation (view A.states c.args.position.now) c.args.follower A.states)
 
 pub returns-else-most-gt0 : goal.returns-else-most-gt0
 returns-else-most-gt0 c =
     let A = automaton c.args.arrows.now in
     let w = weight A c.args.follower in
-    sym (grown_absent w c.largest-before-most.result c.if-most-gt0.false)
-    ∙ ap {B = ℕ} (grown w) c.largest-before-most.ensures
+    sym (grown_absent w c.largest_before-most.result c.if-most-gt0.false)
+    ∙ ap {B = ℕ} (grown w) c.largest_before-most.ensures
     ∙ sym (largest_grown A c.args.command c.args.situation (view A.states c.args.position.now) c.args.follower A.states)

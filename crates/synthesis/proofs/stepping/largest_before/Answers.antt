@@ -10,7 +10,7 @@ loop-state-preserved c =
     let A = automaton c.args.arrows.now in
     let f = λ (q : ℕ). cond (ltb q A.states && A.follows q c.args.command c.args.situation c.args.follower) (get_or c.args.position.now.marks q 0) 0 in
     let i = c.loop-state.state in
-    c.max-most.ensures ∙ ap {B = ℕ} (λ v. max v c.loop-state.most) c.passed-on.ensures ∙ ap {B = ℕ} (λ v. max (f i) v) c.loop-state.invariant ∙ sym (largest_more f i)
+    c.max-most.ensures ∙ ap {B = ℕ} (λ v. max v c.loop-state.most) c.passed_on.ensures ∙ ap {B = ℕ} (λ v. max (f i) v) c.loop-state.invariant ∙ sym (largest_more f i)
 
 pub returns : goal.returns
 returns c =

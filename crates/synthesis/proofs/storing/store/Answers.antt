@@ -18,9 +18,9 @@ loop-state-preserved c k d lt =
     let i = c.loop-state.state in
     let place = get_or places i 0 in
     let inside : place < len = (c.requires.controlled.inside i (omega arith)).0 in
-    let new : State = record { command = c.command_at.result; nexts = c.next-states.result; position = get_or met place (position []) } in
+    let new : State = record { command = c.command_at.result; nexts = c.next_states.result; position = get_or met place (position []) } in
     let at_place : view A.states (get_or met place (position [])) ≡ get_or (shown A len met) place [] =
     sym (get_or-map (view A.states) (take len met) place (position []) [] (omega (arith, inside, length-take-le len met (omega arith))) ∙ ap (view A.states) (get_or-take len met place (position []) inside)) in
     place_more (λ k state. StandsAt A len met places nexts k state) c.loop-state.states i new d
     (let few = c.requires.controlled.few in omega (arith, few)) (λ j l. c.loop-state.invariant j d l)
-    (record { command = c.command_at.ensures; nexts_are = c.next-states.ensures; position = at_place }) k lt
+    (record { command = c.command_at.ensures; nexts_are = c.next_states.ensures; position = at_place }) k lt

@@ -7,8 +7,8 @@ use Rattle.synthesis.proofs.surveying.survey.Goals as goal
 
 pub returns : goal.returns
 returns c =
-    let r = c.in-ok-len.ensures in
-    let n = c.in-ok-len.len in
+    let r = c.in_ok-len.ensures in
+    let n = c.in_ok-len.len in
     let a = r.0 in
     let k : length c.safe_part.new.safe ≡ length (take (n - 0) c.args.safe.now) = c.safe_part.auto.safe in (
       r,

@@ -3,4 +3,4 @@ use Rattle.std.proofs.lemmas.List.{take_at}
 use Rattle.ruletext.proofs.rule.fill.copied.Goals as goal
 
 pub returns : goal.returns
-returns c = let e = c.copy-from-slice.ensures.after in (take_at c.copy-from-slice.new.self _ (length c.args.name.now) (ap length e) ∙ e, simp (length-append, length-drop) (omega (arith, ap length e)))
+returns c = let e = c.copy_from_slice.ensures.after in (take_at c.copy_from_slice.new.self _ (length c.args.name.now) (ap length e) ∙ e, simp (length-append, length-drop) (omega (arith, ap length e)))

@@ -8,8 +8,8 @@ use Rattle.ruletext.specs.declared.so_far.SoFar.TheVariants.{Full}
 use Rattle.ruletext.proofs.Filling.{small, some_state, start_below, name_short, name_good, within, rejects_below, end_unreached, end_reached, same_named}
 use Rattle.ruletext.proofs.rule.fill.whole_rule.Goals as goal
 
-pub returns-then-not-all-reached : goal.returns-then-not-all-reached
-returns-then-not-all-reached c =
+pub returns-then-not-all_reached : goal.returns-then-not-all_reached
+returns-then-not-all_reached c =
     let S = c.args.situations in
     let C = c.args.commands in
     let t = c.args.table in
@@ -23,10 +23,10 @@ returns-then-not-all-reached c =
     let d = s.2 in
     let inside = within S C good name n q t.rejecting t.arrows r d in
     ap (λ z. at_end S C c.args.line z) s.1
-    ∙ end_unreached S C good name n q t.rejecting t.arrows r d c.all_reached.result (c.all_reached.ensures S C inside) c.args.line c.if-not-all-reached.true
+    ∙ end_unreached S C good name n q t.rejecting t.arrows r d c.all_reached.result (c.all_reached.ensures S C inside) c.args.line c.if-not-all_reached.true
 
-pub invariant-of-filled : goal.invariant-of-filled
-invariant-of-filled c =
+pub invariant_of-filled : goal.invariant_of-filled
+invariant_of-filled c =
     let S = c.args.situations in
     let C = c.args.commands in
     let t = c.args.table in
@@ -53,7 +53,7 @@ invariant-of-filled c =
               )),
               (
                 (λ _. rejects_below S C good name n q t.rejecting t.arrows r d),
-                ((λ _. ∣ inside ∣₁), ((λ _. ∣ (c.all_reached.ensures S C inside).0 c.if-not-all-reached.false ∣₁), tt)),
+                ((λ _. ∣ inside ∣₁), ((λ _. ∣ (c.all_reached.ensures S C inside).0 c.if-not-all_reached.false ∣₁), tt)),
               ),
             ),
           ),
@@ -80,7 +80,7 @@ returns c =
     let e : eqb n 0 ≡ false = ne_eqb n 0 (λ z. omega arith) in (
       r,
       ap (λ z. at_end S C c.args.line z) s.1
-          ∙ end_reached S C good name n q t.rejecting t.arrows r d c.all_reached.result (c.all_reached.ensures S C inside) c.args.line c.if-not-all-reached.false,
+          ∙ end_reached S C good name n q t.rejecting t.arrows r d c.all_reached.result (c.all_reached.ensures S C inside) c.args.line c.if-not-all_reached.false,
       subst
           (λ b. elim b as (λ _. ReadRule) [ true ↦ blank | false ↦ filled (record { name = copy; rule = automaton S C n q t.rejecting t.arrows }) ] ≡ filled (named_rule S C r))
           (sym e) (same_named S C good name n q t.rejecting t.arrows r d copy c.copied.ensures.0),

@@ -11,23 +11,23 @@ without : {X Y : Type 0} (P : X → Type 0) (r : Result X Y) → is_err r ≡ tr
 without P (Ok x) h = absurd (false≢true h)
 without P (Err y) h = tt
 
-pub returns-in-err-waiting : goal.returns-in-err-waiting
-returns-in-err-waiting c = without Full c.from-residual-in-err-waiting.result c.from-residual-in-err-waiting.ensures.0
+pub returns-in_err-waiting : goal.returns-in_err-waiting
+returns-in_err-waiting c = without Full c.from_residual-in_err-waiting.result c.from_residual-in_err-waiting.ensures.0
 
-pub returns-in-err-links : goal.returns-in-err-links
-returns-in-err-links c = without Full c.from-residual-in-err-links.result c.from-residual-in-err-links.ensures.0
+pub returns-in_err-links : goal.returns-in_err-links
+returns-in_err-links c = without Full c.from_residual-in_err-links.result c.from_residual-in_err-links.ensures.0
 
-pub returns-in-err-safe : goal.returns-in-err-safe
-returns-in-err-safe c = without Full c.from-residual-in-err-safe.result c.from-residual-in-err-safe.ensures.0
+pub returns-in_err-safe : goal.returns-in_err-safe
+returns-in_err-safe c = without Full c.from_residual-in_err-safe.result c.from_residual-in_err-safe.ensures.0
 
-pub returns-in-err-places : goal.returns-in-err-places
-returns-in-err-places c = without Full c.from-residual-in-err-places.result c.from-residual-in-err-places.ensures.0
+pub returns-in_err-places : goal.returns-in_err-places
+returns-in_err-places c = without Full c.from_residual-in_err-places.result c.from_residual-in_err-places.ensures.0
 
-pub returns-in-err-waiting-places : goal.returns-in-err-waiting-places
-returns-in-err-waiting-places c = without Full c.from-residual-in-err-waiting-places.result c.from-residual-in-err-waiting-places.ensures.0
+pub returns-in_err-waiting_places : goal.returns-in_err-waiting_places
+returns-in_err-waiting_places c = without Full c.from_residual-in_err-waiting_places.result c.from_residual-in_err-waiting_places.ensures.0
 
-pub returns-in-err-nexts : goal.returns-in-err-nexts
-returns-in-err-nexts c = without Full c.from-residual-in-err-nexts.result c.from-residual-in-err-nexts.ensures.0
+pub returns-in_err-nexts : goal.returns-in_err-nexts
+returns-in_err-nexts c = without Full c.from_residual-in_err-nexts.result c.from_residual-in_err-nexts.ensures.0
 
-pub returns-in-err-states : goal.returns-in-err-states
-returns-in-err-states c = without Full c.from-residual-in-err-states.result c.from-residual-in-err-states.ensures.0
+pub returns-in_err-states : goal.returns-in_err-states
+returns-in_err-states c = without Full c.from_residual-in_err-states.result c.from_residual-in_err-states.ensures.0
