@@ -24,6 +24,12 @@ and_false : (b : Bool) → (b && false) ≡ false
 and_false true = refl
 and_false false = refl
 
+pub counted_on_from_none : (qs : List ℕ) (k : ℕ) → shifted 0 qs k ≡ among qs k
+counted_on_from_none [] k = refl
+counted_on_from_none (q ∷ qs) k =
+    let e : 0 + q ≡ q = omega arith in
+    ap (λ z. elim (eqb k z) [ true ↦ true | false ↦ shifted 0 qs k ]) e ∙ ap (λ z. elim (eqb k q) [ true ↦ true | false ↦ z ]) (counted_on_from_none qs k)
+
 same_place : (q u x p : ℕ) (qs : List ℕ) → shifted (place q u x 0) qs (place q u x p) ≡ among qs p
 same_place q u x p [] = refl
 same_place q u x p (r ∷ rs) =

@@ -74,8 +74,8 @@ fn connect_under(arrows: &mut [bool], line: Arrows, command: u8, situations: u8)
 
 /// Adds the line's arrows: under each command and in each situation that it names, to all its followers.
 pub fn connect(arrows: &mut [bool], line: Arrows, situations: u8, commands: u8)
-    requires arrows_len { (length arrows.old ≡ 4096) × ((line.from < 8) × ((commands ≤ 8) × ((situations ≤ 8) × (((p : ℕ) → In (states_in line.to) p → p < 8))))) }
-    requires command_value { (below commands (picked line.command) ≡ true) × (below situations (picked line.situation) ≡ true) }
+    requires fits { (length arrows.old ≡ 4096) × ((line.from < 8) × ((commands ≤ 8) × ((situations ≤ 8) × (((p : ℕ) → In (states_in line.to) p → p < 8))))) }
+    requires named { (below commands (picked line.command) ≡ true) × (below situations (picked line.situation) ≡ true) }
     ensures { Adds arrows.old arrows.new (λ q u x p. has_arrow situations commands q u x p (arrows_of line.entry)) }
 {
     for u in 0..commands {

@@ -28,5 +28,5 @@ pub returns : goal.returns
 returns c =
     let a = arrows_of c.args.line in
     let e : c.loop-u.u ≡ c.args.commands = omega arith in
-    all_arrows a c.args.situations c.args.commands c.args.arrows.now c.loop-u.arrows c.requires.1.0 c.requires.1.1
+    all_arrows a c.args.situations c.args.commands c.args.arrows.now c.loop-u.arrows c.requires.named.0 c.requires.named.1
     (subst (λ z. Adds c.args.arrows.now c.loop-u.arrows (under_commands a z c.args.situations)) e c.loop-u.invariant)

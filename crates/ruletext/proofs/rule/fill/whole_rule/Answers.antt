@@ -38,28 +38,20 @@ invariant_of-filled c =
     let s = subst (λ z. Standing S C z t.rejecting t.arrows given.0) c.in-Full.is given.1 in
     let r = s.0 in
     let d = s.2 in
-    let inside = within S C good name n q t.rejecting t.arrows r d in (
-      c.copied.ensures.1,
-      (
-        (λ _. (good.0, good.1)),
-        (
-          (λ _. (good.2, good.3)),
-          (
-            (λ _. (small S C good name n q t.rejecting t.arrows r d, start_below S C good name n q t.rejecting t.arrows r d)),
-            (
-              (λ _. (
-                name_short S C good name n q t.rejecting t.arrows r d,
-                subst (λ z. good_name z ≡ true) (sym c.copied.ensures.0) (name_good S C good name n q t.rejecting t.arrows r d),
-              )),
-              (
-                (λ _. rejects_below S C good name n q t.rejecting t.arrows r d),
-                ((λ _. ∣ inside ∣₁), ((λ _. ∣ (c.all_reached.ensures S C inside).0 c.if-not-all_reached.false ∣₁), tt)),
-              ),
-            ),
-          ),
-        ),
-      ),
-    )
+    let inside = within S C good name n q t.rejecting t.arrows r d in
+    record {
+      room = c.copied.ensures.1;
+      situated = λ _. (good.0, good.1);
+      commanded = λ _. (good.2, good.3);
+      counted = λ _. (small S C good name n q t.rejecting t.arrows r d, start_below S C good name n q t.rejecting t.arrows r d);
+      named = λ _. (
+        name_short S C good name n q t.rejecting t.arrows r d,
+        subst (λ z. good_name z ≡ true) (sym c.copied.ensures.0) (name_good S C good name n q t.rejecting t.arrows r d),
+      );
+      rejects = λ _. rejects_below S C good name n q t.rejecting t.arrows r d;
+      leads = λ _. ∣ inside ∣₁;
+      reached = λ _. ∣ (c.all_reached.ensures S C inside).0 c.if-not-all_reached.false ∣₁;
+    }
 
 pub returns : goal.returns
 returns c =
