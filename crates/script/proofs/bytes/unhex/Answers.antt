@@ -8,9 +8,9 @@ pub loop-i-preserved : goal.loop-i-preserved
 loop-i-preserved c =
     let w : List ℕ = c.args.digits.now in
     let h : c.loop-i.i < length (unhexed w) = omega (arith, unhexed_length w, c.loop-i-test.true) in
-    let b = c.in-ok-byte-of.ensures in
+    let b = c.in_ok-byte_of.ensures in
     let at = unhexed_at w c.loop-i.i (omega (arith, c.loop-i-test.true)) in
-    let pushed = c.in-ok-push.ensures.items in
+    let pushed = c.in_ok-push.ensures.items in
     let more = take_more (unhexed w) c.loop-i.i 0 h in
     cc
 

@@ -6,14 +6,14 @@ use Rattle.script.proofs.parse.free_numbers.Goals as goal
 pub returns : goal.returns
 returns c =
     record {
-      same = c.next-number-2.ensures.same ∙ c.next-number.ensures.same;
+      same = c.next_number-2.ensures.same ∙ c.next_number.ensures.same;
       numbers =
           record {
-            p = c.next-number.new.words.at;
-            situations = c.in-ok-situations.situations;
-            commands = c.in-ok-commands.commands;
-            at_situations = c.in-ok-situations.ensures.value;
-            at_commands = number_in c.next-number.ensures.same c.in-ok-commands.ensures.value;
+            p = c.next_number.new.words.at;
+            situations = c.in_ok-situations.situations;
+            commands = c.in_ok-commands.commands;
+            at_situations = c.in_ok-situations.ensures.value;
+            at_commands = number_in c.next_number.ensures.same c.in_ok-commands.ensures.value;
             rule = c.new.ensures;
           };
     }
