@@ -14,7 +14,7 @@ use Rattle.model.specs.declared.refusal.Place.{Place}
 use Rattle.model.specs.declared.refusal.Refusal.{Refusal}
 use Rattle.model.specs.declared.refusal.Refusal.TheVariants.{Record, Certificate}
 use Rattle.model.specs.File as File
-use Rattle.model.specs.Sheet.{Sheet, rule_list, rules, check, accepted, Outcome, verdict, respond, answer, opened, run}
+use Rattle.model.specs.Sheet.{Sheet, rule_list, rules, check, accepted, Outcome, verdict, respond, opened, run}
 use Rattle.model.specs.History.{rows_of, ForSheet, Accepts, CheckExact, AfterCalls}
 use Rattle.model.specs.CountLaws.{Marking, Valid}
 use Rattle.model.proofs.Lists.{in_map, map_in, in_joined, joined_in, in_counting, counting_in, decides_every}

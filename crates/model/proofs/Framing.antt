@@ -8,7 +8,6 @@ use Rattle.model.specs.Positions.{Found, found, none_found, too_crowded, Solutio
 use Rattle.model.specs.Positions as Positions
 use Rattle.model.specs.Sheet.{Sheet, Stored, opened, rules, with_stored, Call, solve, frame, count, command, refused, Outcome, answers, row_in, solve_with, respond, answer, after, run, replies}
 use Rattle.model.specs.SheetLaws.{stored_controller, in_next, Does, add_blank, add_unlike, add_taken, add_full, adds, withdraw_unknown, withdraws, limit_over, limits, finds, finds_none, crowds, frame_none, frame_large, moves, write_none, write_short, writes, checks}
-use Rattle.model.specs.File as File
 use Rattle.model.specs.History.{AfterCalls, Frame, frame_of, frames, last_given, Along, FramesWithin, FramesStay}
 use Rattle.model.specs.History as History
 use Rattle.model.specs.Automaton as Automata

@@ -3,8 +3,7 @@ use Rattle.std.proofs.Common.{◌≡◌, ℕ, ◌<◌, ◌↔◌, map, length, s
 use Rattle.model.specs.Automaton.{Controller, AtMost, Exceeds, HasCount, CountAtMost, CountAbove, CountIs, NoRejectingCycle, controller}
 use Rattle.model.specs.Positions.{found, none_found, too_crowded, Solution}
 use Rattle.model.specs.Positions as Positions
-use Rattle.model.specs.Sheet.{Sheet, opened, rule_list, rules, solve, count, Outcome, row_in, solve_with, respond, answer, run}
-use Rattle.model.specs.File as File
+use Rattle.model.specs.Sheet.{Sheet, opened, rule_list, rules, solve, Outcome, row_in, solve_with, respond, run}
 use Rattle.model.specs.History.{NoneOnSheet, OverCapacity, SolveSays, least, none_there, too_many, SolveLeast, AfterCalls}
 use Rattle.model.specs.History as History
 use Rattle.model.proofs.Paths.{bounded_is_finite}

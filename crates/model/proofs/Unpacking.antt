@@ -14,7 +14,7 @@ use Rattle.model.specs.File.{bytes_of, number_of, record_bytes, file_mark, recor
 use Rattle.model.specs.declared.refusal.Place.{Place}
 use Rattle.model.specs.declared.refusal.Refusal.TheVariants.{Trailer, OtherSheet, Layout, Record, Certificate}
 use Rattle.model.specs.File as File
-use Rattle.model.specs.Sheet.{Sheet, rules, check, Outcome, verdict, respond, answer, opened, run}
+use Rattle.model.specs.Sheet.{Sheet, rules, check, Outcome, verdict, respond, opened, run}
 use Rattle.model.specs.History.{rows_of, FileOf, ForSheet, AcceptedIsFile, AfterCalls}
 use Rattle.model.proofs.Lists.{in_left, in_right, map_in, in_getD, decides_every, decides_same}
 use Rattle.model.proofs.Files.{window_at, check_parts}

@@ -1,13 +1,13 @@
 -- The tables of a drafted rule state the rule that the lines mean.
-use Rattle.std.proofs.Common.{◌≡◌, ℕ, zero, suc, ◌+◌, ◌<◌, ◌≤◌, Bool, true, false, ◌&&◌, eqb, ltb, List, [], ◌∷◌, ◌++◌, length, get_or, take, Decides, sym, refl, ap, ◌∙◌, subst, arith}
+use Rattle.std.proofs.Common.{◌≡◌, ℕ, ◌<◌, ◌≤◌, Bool, true, false, ◌&&◌, eqb, ltb, List, length, get_or, Decides, sym, ap, ◌∙◌, subst, arith}
 use mathlib.Core.Path.{fun_ext}
-use Rattle.std.proofs.lemmas.Bool.{and_parts, and_from, lt-ltb, ltb-true, both_ways, le-ltb}
+use Rattle.std.proofs.lemmas.Bool.{and_parts, and_from, lt-ltb, ltb-true, both_ways}
 use Rattle.model.specs.Automaton.{Automaton}
-use Rattle.model.specs.Lists.{any, In}
-use Rattle.model.specs.Text.{Choice, one, each, TextRule, n_line, correct, good_name, among, has_arrow, meaning, all_reached, ReadRule, filled, named_rule}
+use Rattle.model.specs.Lists.{any}
+use Rattle.model.specs.Text.{Choice, one, each, TextRule, n_line, good_name, has_arrow, meaning, all_reached, filled, named_rule}
 use Rattle.model.specs.Reading.{at_end, full, reads, faulty}
 use Rattle.model.specs.declared.fault.ReadFault.TheVariants.{Unreached}
-use Rattle.model.specs.ReadingLaws.{Below, Chosen, NumbersGood, AllReached, Ranged}
+use Rattle.model.specs.ReadingLaws.{Below, Chosen, NumbersGood, AllReached}
 use Rattle.model.proofs.Reading.Basics.{by_test}
 use Rattle.model.proofs.Reading.Correct.{correct_exact}
 use Rattle.model.proofs.Reading.Meanings.{meaning_exact}

@@ -1,17 +1,17 @@
 -- One more line: the tables then, and the rule that the lines state so far.
-use Rattle.std.proofs.Common.{◌≡◌, ℕ, zero, suc, ◌+◌, ◌*◌, ◌^◌, ◌<◌, ◌≤◌, Bool, true, false, not, ◌||◌, ◌⊎◌, List, [], ◌∷◌, ◌++◌, length, get_or, None, sym, refl, ap, ◌∙◌, subst, inl, inr, ⊎_elim, arith, length-append}
-use mathlib.Core.Option.{Option, none, some}
+use Rattle.std.proofs.Common.{◌≡◌, ℕ, ◌+◌, ◌*◌, ◌^◌, ◌<◌, ◌≤◌, Bool, false, not, ◌||◌, List, [], ◌∷◌, ◌++◌, length, get_or, None, sym, refl, ap, ◌∙◌, subst, ⊎_elim, arith, length-append}
+use mathlib.Core.Option.{some}
 use Rattle.model.specs.Lists.{any, first, joined, In}
-use Rattle.model.specs.Text.{Number, Choice, one, each, Arrows, Line, n_line, r_line, t_line, TextRule, among, has_arrow, numbers, inside, state_numbers, line_bytes, digit_word, choice_word}
+use Rattle.model.specs.Text.{Choice, one, each, Arrows, Line, n_line, r_line, t_line, TextRule, among, has_arrow, numbers, inside, state_numbers, line_bytes, digit_word, choice_word}
 use Rattle.model.specs.Reading.{SoFar, onward, states_so_far, with_arrows}
-use Rattle.model.specs.ReadingLaws.{Correct, Ranged, Below}
+use Rattle.model.specs.ReadingLaws.{Correct, Below}
 use Rattle.model.proofs.Lists.{in_append}
 use Rattle.model.proofs.Reading.Basics.{by_test}
 use Rattle.ruletext.specs.Ranges.{first_outside}
 use Rattle.ruletext.specs.Tables.{place, Adds}
 use Rattle.ruletext.specs.Standing.{Clear, Drafted, on, step}
 use Rattle.ruletext.proofs.Loops.{words_length}
-use Rattle.ruletext.proofs.Holding.{spot_none, states_below, arrows_below, Leading}
+use Rattle.ruletext.proofs.Holding.{spot_none, states_below, arrows_below}
 
 module _ (S C line : ℕ) (m next : SoFar) (l : Line) (e : onward m l ≡ some next) where
   pub step_on : first_outside (numbers S C (states_so_far next) l) ≡ None → step S C line m l ≡ on next

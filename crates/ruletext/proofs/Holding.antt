@@ -1,10 +1,10 @@
 -- A line whose numbers are in range, in plain words.
-use Rattle.std.proofs.Common.{◌≡◌, ℕ, zero, suc, ◌+◌, ◌<◌, ◌≤◌, Bool, true, false, ◌⊎◌, List, [], ◌∷◌, ◌++◌, None, sym, refl, ap, ◌∙◌, subst, inl, inr, ⊎_elim, arith}
+use Rattle.std.proofs.Common.{◌≡◌, ℕ, ◌+◌, ◌<◌, true, List, [], ◌∷◌, ◌++◌, None, refl, inl, inr, arith}
 use mathlib.Core.Option as model
 use Rattle.std.proofs.lemmas.Bool.{lt-ltb}
 use Rattle.model.specs.Lists.{first, In}
 use Rattle.model.specs.Text.{Number, Choice, one, each, Arrows, t_line, numbers, state_numbers, choice_number}
-use Rattle.model.specs.ReadingLaws.{Inside, Below}
+use Rattle.model.specs.ReadingLaws.{Below}
 use Rattle.model.proofs.Lists.{in_left, in_right}
 use Rattle.model.proofs.Reading.Ranges.{AllInside, outside, first_none}
 use Rattle.ruletext.specs.Ranges.{spot, first_outside, below}

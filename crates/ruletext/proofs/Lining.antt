@@ -1,5 +1,5 @@
 -- The text, line by line.
-use Rattle.std.proofs.Common.{◌≡◌, ℕ, zero, suc, ◌+◌, ◌-◌, ◌<◌, ◌≤◌, Bool, true, false, not, List, [], ◌∷◌, ◌++◌, length, take, drop, sym, refl, ap, ◌∙◌, subst, add-one, arith, length-append, length-drop}
+use Rattle.std.proofs.Common.{◌≡◌, ℕ, zero, suc, ◌+◌, ◌<◌, ◌≤◌, Bool, true, not, List, [], ◌∷◌, length, drop, sym, refl, ap, ◌∙◌, subst, add-one, arith, length-append, length-drop}
 use mathlib.Core.Option.{Option, none, some}
 use Rattle.model.specs.declared.fault.LineFault.{LineFault}
 use Rattle.model.specs.declared.fault.LineFault.TheVariants.{Word, Order, Range}
@@ -10,7 +10,7 @@ use Rattle.model.specs.Reading.{Part, part, wrong, first_line, SoFar, nothing, o
 use Rattle.model.proofs.Reading.Parts.{line_exact}
 use Rattle.ruletext.specs.declared.so_far.SoFar.{SoFar as Far}
 use Rattle.ruletext.specs.declared.so_far.SoFar.TheVariants as far
-use Rattle.ruletext.specs.Standing.{Standing, Drafted, Clear, stated, Step, on, off, step, Taken, going, stopped, take_line}
+use Rattle.ruletext.specs.Standing.{Standing, Clear, stated, on, off, step, Taken, going, stopped, take_line}
 
 -- ONE LINE
 

@@ -1,12 +1,12 @@
 -- The loop over digits: those read so far, and what their words are.
-use Rattle.std.proofs.Common.{◌≡◌, ℕ, zero, suc, ◌+◌, ◌-◌, ◌*◌, ◌<◌, ◌≤◌, Bool, true, false, eqb, ◌⊎◌, List, [], ◌∷◌, ◌++◌, length, get_or, take, drop, sym, refl, ap, ◌∙◌, subst, inl, inr, ⊎_elim, append_assoc, append-nil, add-zero, arith, length-append}
+use Rattle.std.proofs.Common.{◌≡◌, ℕ, suc, ◌+◌, ◌-◌, ◌*◌, ◌<◌, ◌≤◌, true, eqb, ◌⊎◌, List, [], ◌∷◌, ◌++◌, length, get_or, take, drop, sym, refl, ap, ◌∙◌, inl, inr, ⊎_elim, append_assoc, append-nil, add-zero, arith, length-append}
 use Rattle.std.proofs.lemmas.Bool.{ne_eqb, eqb-true, eq-eqb}
 use Rattle.std.proofs.lemmas.List.{drop_more, drop_all, take_at, get_or-drop}
 use Rattle.model.specs.Lists.{every, joined}
 use Rattle.model.specs.Text.{Line, n_line, name_byte, one_digit, digit_word}
 use Rattle.model.specs.Reading.{Part, part, wrong, ◌>>=◌, given, byte, digit, digits, name_rest, n_words}
-use Rattle.model.proofs.Reading.Basics.{bind_part, bind_wrong, cons_nil, by_test, true_false, part_wrong, wrong_same, part_same, SamePart}
-use Rattle.model.proofs.Reading.Readers.{byte_takes, Byte, byte_yes}
+use Rattle.model.proofs.Reading.Basics.{bind_part, bind_wrong, cons_nil, part_wrong, wrong_same}
+use Rattle.model.proofs.Reading.Readers.{byte_takes, byte_yes}
 use Rattle.model.proofs.Reading.Digits.{every_cons, every_parts, digits_end}
 use Rattle.model.proofs.Lists.{joined_append}
 use Rattle.model.proofs.Reading.Parts.{words_exact}

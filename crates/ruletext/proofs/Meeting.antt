@@ -1,12 +1,11 @@
 -- The search over the states of a rule meets exactly those that are reached.
 use Rattle.std.proofs.Common.{◌≡◌, ℕ, suc, ◌+◌, ◌<◌, ◌≤◌, Bool, true, false, cond, ◌&&◌, eqb, ltb, ◌⊎◌, List, [], ◌∷◌, map, length, get_or, take, Some, None, Decides, Option, sym, refl, ap, ◌∙◌, subst, inl, inr, arith, length-take-le}
-use mathlib.Core.Option.{none, some}
 use Rattle.std.specs.List.{range_with_len}
 use Rattle.std.proofs.lemmas.List.FromFn.{length-range_with_len}
 use Rattle.std.proofs.lemmas.Bool.{eq-eqb, eqb-true, lt-ltb, le-ltb, ltb-true, and_parts, and_from, both_ways, cases_Bool}
 use Rattle.std.proofs.lemmas.Bool.Decides.{Decides-eqb, Decides-like, same_from_decides}
-use Rattle.model.specs.Automaton.{Automaton, Starts, Follows}
-use Rattle.model.specs.Lists.{any, In, Distinct}
+use Rattle.model.specs.Automaton.{Automaton}
+use Rattle.model.specs.Lists.{any, In}
 use Rattle.model.specs.Search.{reached_from}
 use Rattle.model.specs.SearchLaws.{Leads, here, further}
 use Rattle.model.specs.ReadingLaws.{Reached, at_start, by_arrow, AllReached}

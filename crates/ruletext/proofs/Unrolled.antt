@@ -1,14 +1,14 @@
 -- The reader of digits up to the line end, for a loop that takes one digit a turn.
-use Rattle.std.proofs.Common.{◌≡◌, ℕ, zero, suc, ◌+◌, ◌-◌, ◌*◌, ◌<◌, ◌≤◌, Bool, true, false, eqb, ◌⊎◌, List, [], ◌∷◌, ◌++◌, length, get_or, drop, sym, refl, ap, ◌∙◌, subst, inl, inr, ⊎_elim, append_assoc, append-nil, arith}
+use Rattle.std.proofs.Common.{◌≡◌, ℕ, zero, suc, ◌+◌, ◌-◌, ◌*◌, ◌<◌, true, false, eqb, ◌⊎◌, List, [], ◌∷◌, ◌++◌, length, get_or, sym, refl, ap, ◌∙◌, ⊎_elim, arith}
 use Rattle.std.proofs.lemmas.Bool.{ne_eqb, eqb-true, eqb-false, eq-eqb}
 use Rattle.model.specs.Lists.{every, joined}
-use Rattle.model.specs.Text.{digit_byte, name_byte, one_digit, digit_word}
+use Rattle.model.specs.Text.{name_byte, one_digit, digit_word}
 use Rattle.model.specs.Reading.{Part, part, wrong, byte, digit, digits, name_rest}
 use Rattle.model.proofs.Reading.Basics.{by_test, true_false, part_wrong, wrong_same, part_same, cons_nil}
 use Rattle.model.proofs.Reading.Readers.{byte_yes, byte_no}
-use Rattle.model.proofs.Reading.Names.{name_end, name_over, name_other, name_cases}
-use Rattle.model.proofs.Reading.Words.{digit_written, digit_complete}
-use Rattle.model.proofs.Reading.Digits.{every_parts, Digits, none, end, lone, other, no_digit, more, see, digits_end, digits_other, digits_no_digit, digits_cases}
+use Rattle.model.proofs.Reading.Names.{name_over, name_other, name_cases}
+use Rattle.model.proofs.Reading.Words.{digit_written}
+use Rattle.model.proofs.Reading.Digits.{every_parts, Digits, none, end, lone, other, no_digit, more, see, digits_other, digits_no_digit, digits_cases}
 
 -- the digits before
 abbrev pub behind : List ℕ → Part (List ℕ) → Part (List ℕ)

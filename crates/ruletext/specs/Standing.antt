@@ -1,5 +1,5 @@
 -- How far the lines of a text have come, as the code and as the model have it.
-use Rattle.std.specs.Prelude.{◌≡◌, ℕ, ◌<◌, ◌≤◌, Bool, true, false, not, List, length, drop, Some, None, Ok, Err, Result, slice_index_or}
+use Rattle.std.specs.Prelude.{◌≡◌, ℕ, ◌<◌, ◌≤◌, Bool, false, not, List, length, drop, Some, None, Ok, Err, Result, slice_index_or}
 use Rattle.std.proofs.Math.Option.{none, some}
 use Rattle.model.specs.declared.fault.LineFault.{LineFault}
 use Rattle.model.specs.declared.fault.LineFault.TheVariants.{Word, Order, Range}

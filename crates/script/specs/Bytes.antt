@@ -1,5 +1,5 @@
 -- How a word of a script writes bytes.
-use Rattle.std.specs.Prelude.{◌≡◌, ℕ, ◌+◌, ◌-◌, ◌*◌, ◌<◌, ◌≤◌, cond, ◌⊎◌, List, [], ◌∷◌, take, drop, vec_items, codes, nat_lt}
+use Rattle.std.specs.Prelude.{◌≡◌, ℕ, ◌+◌, ◌-◌, ◌*◌, ◌≤◌, cond, ◌⊎◌, List, [], ◌∷◌, take, drop, vec_items, codes, nat_lt}
 use Rattle.script.specs.declared.bytes.Source.{Source}
 use Rattle.script.specs.declared.bytes.Source.TheVariants.{Script, File}
 

@@ -1,5 +1,5 @@
 -- Lines of a script, which is a list of bytes.
-use Rattle.std.specs.Prelude.{◌≡◌, ℕ, ◌+◌, ◌-◌, ◌<◌, ◌≤◌, ◌⊎◌, List, length, ◌≢◌, slice_index, slice_range}
+use Rattle.std.specs.Prelude.{◌≡◌, ℕ, ◌+◌, ◌<◌, ◌≤◌, ◌⊎◌, List, length, ◌≢◌, slice_index, slice_range}
 
 -- no byte from one place up to another ends a line
 abbrev pub Unbroken : List ℕ → ℕ → ℕ → Type 0

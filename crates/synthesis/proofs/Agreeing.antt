@@ -1,12 +1,12 @@
 -- Automata that answer alike below their numbers have the same solution. Assumes nothing.
-use Rattle.std.proofs.Common.{◌≡◌, ℕ, zero, suc, ◌+◌, ◌<◌, ◌≤◌, max, Bool, true, false, cond, ◌&&◌, eqb, ltb, ◌⊎◌, List, [], ◌∷◌, ◌++◌, map, length, sym, refl, ap, ◌∙◌, subst, inl, inr, zero-le, arith}
+use Rattle.std.proofs.Common.{◌≡◌, ℕ, zero, suc, ◌+◌, ◌<◌, ◌≤◌, max, Bool, true, false, cond, ◌&&◌, eqb, ltb, List, [], ◌∷◌, map, length, refl, ap, ◌∙◌, inl, inr, arith}
 use mathlib.Core.Path.{fun_ext}
 use mathlib.Core.Option.{Option, none, some}
 use Rattle.std.specs.List.{range_with_len, filter}
 use Rattle.model.specs.Automaton.{Automaton, weight, Row}
 use Rattle.model.specs.Lists.{every, any, joined, In}
 use Rattle.model.specs.Search.{place, reached_from}
-use Rattle.model.specs.Positions.{Position, mark, largest, first_mark, start_position, handed, step, fits, same, steps, successors, reach, member, holds, kept, pruned, safe_part, lowest, command_at, states_met, row_at, Found, found_in, Solution, found, none_found, too_crowded, try_from, solve}
+use Rattle.model.specs.Positions.{Position, mark, largest, first_mark, start_position, handed, step, fits, same, steps, successors, reach, member, holds, kept, pruned, safe_part, lowest, command_at, states_met, row_at, Found, found_in, Solution, found, too_crowded, try_from, solve}
 use Rattle.model.proofs.Lists.{counting_in}
 use Rattle.synthesis.specs.Tables.{Agrees, SolvesAlike}
 use Rattle.synthesis.proofs.Making.{map_like, joined_like, any_like}

@@ -1,23 +1,23 @@
 -- The states found in the table are the model's, and so are the rows. Assumes nothing.
-use Rattle.std.proofs.Common.{◌≡◌, ℕ, zero, suc, ◌+◌, ◌-◌, ◌*◌, ◌/◌, ◌%◌, ◌<◌, ◌≤◌, Bool, true, false, cond, ◌&&◌, eqb, ltb, ◌⊎◌, List, [], ◌∷◌, map, length, get_or, take, Some, None, Option, sym, refl, ap, ◌∙◌, subst, inl, inr, true≢false, zero-le, arith}
+use Rattle.std.proofs.Common.{◌≡◌, ℕ, zero, suc, ◌+◌, ◌-◌, ◌*◌, ◌<◌, ◌≤◌, Bool, true, false, cond, ◌&&◌, eqb, ltb, List, [], ◌∷◌, map, length, get_or, Some, None, Option, sym, refl, ap, ◌∙◌, subst, inl, inr, zero-le, arith}
 use mathlib.Core.Bool.{false≢true}
-use mathlib.Core.Option.{Option as MaybeList, none, some}
+use mathlib.Core.Option.{Option as MaybeList, some}
 use Rattle.std.specs.List.{range_with_len, AllByRecursion as All}
 use Rattle.std.proofs.lemmas.Bool.{lt-ltb, eq-eqb, eqb-true, cases_Bool}
 use Rattle.model.specs.Automaton.{Automaton, Row}
 use Rattle.model.specs.Lists.{In, Distinct}
 use Rattle.model.specs.Search.{place, reached_from}
-use Rattle.model.specs.Positions.{Position, same, step, steps, fits, member, holds, command_at, states_met, row_at}
+use Rattle.model.specs.Positions.{Position, same, step, steps, fits, member, command_at, row_at}
 use Rattle.model.proofs.Lists.{counting_in, one_place}
 use Rattle.synthesis.proofs.Deciding.{same_bool, same_refl, same_sound, member_sound, holds_complete}
 use Rattle.search.specs.Meeting.{present, successors as neighbours, Link, Linked}
-use Rattle.synthesis.proofs.Carried.{carried, search_carried, search_good}
-use Rattle.synthesis.specs.Surveys.{Leads, Stepping}
+use Rattle.synthesis.proofs.Carried.{carried, search_carried}
+use Rattle.synthesis.specs.Surveys.{Stepping}
 use Rattle.synthesis.specs.Safety.{link, flag, Holding, stays_under, first_of, lowest_kept}
 use Rattle.synthesis.specs.Control.{led, onward}
 use Rattle.synthesis.proofs.Showing.{present_cut}
 use Rattle.synthesis.proofs.Pruned.{flag_inside}
-use Rattle.synthesis.proofs.Flags.{link_to, holding_holds, holds_holding, choice_is}
+use Rattle.synthesis.proofs.Flags.{link_to, holds_holding, choice_is}
 use Rattle.synthesis.proofs.Lowest.{under_holding, holding_under}
 use Rattle.synthesis.proofs.Making.{map-map, map_like}
 

@@ -1,21 +1,21 @@
 -- The flags that pruning leaves are the model's safe part. Assumes nothing.
-use Rattle.std.proofs.Common.{◌≡◌, ℕ, zero, suc, ◌+◌, ◌*◌, ◌<◌, ◌≤◌, Bool, true, false, cond, ◌&&◌, ltb, ◌⊎◌, List, [], ◌∷◌, ◌++◌, map, length, get_or, take, Some, None, sym, refl, ap, ◌∙◌, subst, inl, inr, true≢false, zero-le, arith}
+use Rattle.std.proofs.Common.{◌≡◌, ℕ, zero, suc, ◌+◌, ◌<◌, ◌≤◌, Bool, true, false, ◌&&◌, ltb, List, [], ◌++◌, length, get_or, take, Some, sym, refl, ap, ◌∙◌, subst, inl, inr, true≢false, zero-le, arith}
 use mathlib.Core.Bool.{false≢true}
-use mathlib.Core.Option.{none, some}
+use mathlib.Core.Option.{some}
 use Rattle.std.proofs.lemmas.List.{length-map, length-take-le, get_or_append_left}
 use Rattle.synthesis.specs.declared.position.Position.{Position as Stored}
 use Rattle.std.specs.List.{range_with_len}
 use Rattle.std.proofs.lemmas.Bool.{lt-ltb, ltb-true, and_parts, and_from, cases_Bool}
 use Rattle.model.specs.Automaton.{Automaton}
 use Rattle.model.specs.Lists.{In}
-use Rattle.model.specs.Positions.{Position, step, steps, fits, reach, member, holds, kept, pruned, safe_part, lowest, command_at}
+use Rattle.model.specs.Positions.{Position, step, fits, reach, member, holds, safe_part, lowest, command_at}
 use Rattle.model.proofs.Lists.{in_getD}
 use Rattle.model.proofs.Runs.{step_length}
 use Rattle.model.proofs.Reaching.{reach_exact, reach_fits, pruned_keeps, part_in, part_kept}
 use Rattle.synthesis.proofs.Deciding.{same_bool, fits_complete, member_sound, member_complete, holds_sound, holds_complete}
 use Rattle.synthesis.specs.Tables.{view}
 use Rattle.synthesis.specs.Surveys.{shown, Leads, Stepping, Reached}
-use Rattle.synthesis.specs.Safety.{link, flag, Holding, Keeping, Closed, Widest, Safest, trues}
+use Rattle.synthesis.specs.Safety.{link, flag, Holding, Closed, Safest}
 use Rattle.synthesis.proofs.Pruned.{flag_inside}
 
 -- a step that is in the list has a link to it

@@ -1,7 +1,7 @@
 -- Arrays filled from the front, and the marks of a step. Assumes nothing.
-use Rattle.std.proofs.Common.{◌≡◌, ℕ, zero, suc, ◌+◌, ◌-◌, ◌<◌, ◌≤◌, max, Bool, true, false, cond, ◌&&◌, ltb, leb, ◌⊎◌, List, [], ◌∷◌, ◌++◌, map, length, get_or, take, set, replicate, Some, None, Option as Maybe, sym, refl, ap, ◌∙◌, subst, inl, inr, true≢false, append-nil, add-zero, add-suc, add-one, arith, get_or-set_other, get_or-set_same}
+use Rattle.std.proofs.Common.{◌≡◌, ℕ, zero, suc, ◌+◌, ◌-◌, ◌<◌, ◌≤◌, max, Bool, true, false, cond, ◌&&◌, ltb, List, [], ◌∷◌, ◌++◌, map, length, get_or, set, replicate, Some, None, Option as Maybe, sym, refl, ap, ◌∙◌, subst, inl, inr, append-nil, add-zero, add-suc, add-one, arith, get_or-set_other, get_or-set_same}
 use Rattle.std.specs.List.{range_with_len}
-use Rattle.std.proofs.lemmas.List.{take_more_set, set_at, append_assoc}
+use Rattle.std.proofs.lemmas.List.{set_at, append_assoc}
 use Rattle.std.proofs.lemmas.List.FromFn.{map-range_with_len_more, length-map-range_with_len, get_or-map-range_with_len}
 use Rattle.std.proofs.lemmas.Bool.{lt-ltb, le-ltb, cases_lt, cases_eq, cases_Bool}
 use Rattle.synthesis.specs.Tables.{stored, stepped, mark_before}

@@ -1,8 +1,8 @@
 -- One round of pruning. Assumes nothing.
-use Rattle.std.proofs.Common.{◌≡◌, ℕ, zero, suc, ◌+◌, ◌*◌, ◌<◌, ◌≤◌, Bool, true, false, cond, ◌⊎◌, List, [], ◌∷◌, length, get_or, set, sym, refl, ap, ◌∙◌, subst, inl, inr, true≢false, arith, length-set, get_or-set_other, get_or-set_same}
+use Rattle.std.proofs.Common.{◌≡◌, ℕ, zero, suc, ◌+◌, ◌<◌, Bool, true, false, cond, List, [], ◌∷◌, length, set, sym, refl, ap, ◌∙◌, subst, inl, inr, true≢false, arith, length-set, get_or-set_other, get_or-set_same}
 use mathlib.Core.Bool.{false≢true}
 use Rattle.std.proofs.lemmas.Bool.{cases_eq, cases_Bool}
-use Rattle.synthesis.specs.Safety.{link, flag, Holding, Keeping, Closed, Widest, Safest, trues}
+use Rattle.synthesis.specs.Safety.{link, flag, Keeping, Closed, Widest, trues}
 
 -- the first n places are looked at
 pub record Pruning (C S : ℕ) (links : List ℕ) (before now : List Bool) (pruned : Bool) (n : ℕ) : Type 0 where

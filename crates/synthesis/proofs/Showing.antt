@@ -1,15 +1,14 @@
 -- What a search among stored positions finds is the model's. Assumes nothing.
-use Rattle.std.proofs.Common.{◌≡◌, ℕ, zero, suc, ◌+◌, ◌-◌, ◌*◌, ◌/◌, ◌%◌, ◌<◌, ◌≤◌, Bool, true, false, cond, ◌&&◌, eqb, ltb, ◌⊎◌, List, [], ◌∷◌, ◌++◌, map, length, get_or, take, replicate, IfSome, Some, None, Option, sym, refl, ap, ◌∙◌, subst, inl, inr, true≢false, append_assoc, append-nil, add-one, arith}
-use mathlib.Core.Bool.{false≢true}
+use Rattle.std.proofs.Common.{◌≡◌, ℕ, zero, suc, ◌+◌, ◌-◌, ◌*◌, ◌/◌, ◌%◌, ◌<◌, ◌≤◌, Bool, true, false, cond, ◌&&◌, eqb, ltb, List, [], ◌∷◌, ◌++◌, map, length, get_or, take, replicate, IfSome, Some, None, Option, sym, refl, ap, ◌∙◌, subst, inl, inr, arith}
 use lib.Arith.{digits_div, digits_mod}
 use Rattle.std.specs.List.{range_with_len, filter, AllByRecursion as All}
 use Rattle.std.proofs.lemmas.List.{take_at, length-take-le, map-append, length-map, get_or-map}
 use Rattle.std.proofs.ByRecursion.{All-append, All-get_or}
-use Rattle.std.proofs.lemmas.Bool.{lt-ltb, le-ltb, cases_lt, eq-eqb}
+use Rattle.std.proofs.lemmas.Bool.{lt-ltb, le-ltb, cases_lt}
 use Rattle.model.specs.Automaton.{Automaton}
 use Rattle.model.specs.Lists.{joined}
 use Rattle.model.specs.Search.{place, reached_from}
-use mathlib.Core.Option.{Option as MaybeList, none, some}
+use mathlib.Core.Option.{Option as MaybeList, some}
 use Rattle.synthesis.proofs.Carried.{found_back, none_back}
 use Rattle.model.specs.Positions.{same, step, steps, fits, start_position, successors, reach}
 use Rattle.model.proofs.Runs.{step_length, start_length}

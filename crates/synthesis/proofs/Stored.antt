@@ -1,9 +1,9 @@
 -- The states that are stored are those of the controller found, and automata that agree have the same answer. Assumes nothing.
-use Rattle.std.proofs.Common.{◌≡◌, ℕ, zero, suc, ◌+◌, ◌-◌, ◌*◌, ◌<◌, ◌≤◌, Bool, List, [], ◌∷◌, map, length, get_or, take, sym, refl, ap, ◌∙◌, subst, arith}
+use Rattle.std.proofs.Common.{◌≡◌, ℕ, zero, suc, ◌+◌, ◌*◌, ◌<◌, ◌≤◌, Bool, List, [], ◌∷◌, map, length, get_or, take, sym, refl, ap, ◌∙◌, arith}
 use Rattle.std.specs.List.{range_with_len}
 use Rattle.std.proofs.lemmas.List.{length-map, length-take-le, get_or-take, take-map}
 use Rattle.model.specs.Automaton.{Automaton, Row}
-use Rattle.model.specs.Positions.{Position, Found, solve, safe_part, command_at, states_met, row_at, found_in}
+use Rattle.model.specs.Positions.{Position, safe_part, command_at, states_met, row_at, found_in}
 use Rattle.synthesis.specs.declared.position.Position.{Position as Slot}
 use Rattle.synthesis.specs.declared.state.State.{State}
 use Rattle.synthesis.specs.declared.solved.Found.{Found as Size}

@@ -1,5 +1,5 @@
 -- From the table of links to the model's controller. Assumes nothing.
-use Rattle.std.proofs.Common.{◌≡◌, ℕ, zero, suc, ◌+◌, ◌*◌, ◌<◌, ◌≤◌, Bool, true, false, eqb, List, [], ◌∷◌, ◌++◌, map, length, get_or, take, Some, None, Option, sym, refl, ap, ◌∙◌, subst, zero-le, arith}
+use Rattle.std.proofs.Common.{◌≡◌, ℕ, ◌<◌, ◌≤◌, Bool, true, false, eqb, List, [], ◌++◌, map, length, get_or, take, Some, Option, sym, ap, ◌∙◌, subst, arith}
 use mathlib.Core.Option.{Option as MaybeList, none, some}
 use Rattle.std.specs.List.{AllByRecursion as All}
 use Rattle.std.proofs.lemmas.List.{length-map, length-take-le, get_or-take, take-append-le, get_or_append_left}
@@ -7,7 +7,7 @@ use Rattle.std.proofs.ByRecursion.{All-get_or}
 use Rattle.model.specs.Automaton.{Automaton, Row}
 use Rattle.model.specs.Lists.{In, Distinct}
 use Rattle.model.specs.Search.{reached_from}
-use Rattle.model.specs.Positions.{Position, same, step, steps, fits, reach, start_position, member, safe_part, command_at, states_met, row_at, found_in}
+use Rattle.model.specs.Positions.{Position, same, step, steps, fits, start_position, member, safe_part, command_at, states_met, row_at, found_in}
 use Rattle.model.proofs.Runs.{step_length}
 use Rattle.model.proofs.Reaching.{reach_exact, part_kept}
 use Rattle.model.proofs.Finding.{found_formed}
@@ -15,13 +15,13 @@ use Rattle.search.specs.Meeting.{successors as neighbours, Linked, Found}
 use Rattle.synthesis.proofs.Carried.{carried, search_carried, search_good, GoodFound}
 use Rattle.synthesis.specs.declared.position.Position.{Position as Stored}
 use Rattle.synthesis.specs.Tables.{view}
-use Rattle.synthesis.specs.Surveys.{shown, Reached, Surveyed}
+use Rattle.synthesis.specs.Surveys.{shown, Surveyed}
 use Rattle.synthesis.specs.Safety.{flag, trues, lowest_kept}
-use Rattle.synthesis.specs.Control.{onward, standing, Controlled}
+use Rattle.synthesis.specs.Control.{onward, Controlled}
 use Rattle.synthesis.proofs.Deciding.{member_sound}
 use Rattle.synthesis.proofs.Flags.{listed_fits, safe_within}
 use Rattle.synthesis.proofs.Pruned.{flag_inside}
-use Rattle.synthesis.proofs.Controls.{at, Good, tests, leads, stays, pick_at, states_are, row_is}
+use Rattle.synthesis.proofs.Controls.{tests, leads, stays, pick_at, row_is}
 use Rattle.synthesis.proofs.Whole.{safe_count, start_first, trues_short}
 
 module _ (A : Automaton) (c room len : ℕ) (slots : List Stored) (links : List ℕ) (safe : List Bool)

@@ -1,9 +1,9 @@
 -- One bound after the other. Assumes nothing.
-use Rattle.std.proofs.Common.{◌≡◌, ℕ, zero, suc, ◌+◌, ◌-◌, ◌<◌, ◌≤◌, Bool, true, false, List, [], ◌∷◌, map, length, get_or, take, Some, sym, refl, ap, ◌∙◌, subst, add-one, arith}
+use Rattle.std.proofs.Common.{◌≡◌, ℕ, suc, ◌+◌, ◌-◌, ◌<◌, ◌≤◌, Bool, true, false, List, length, take, Some, sym, refl, ap, ◌∙◌, add-one, arith}
 use mathlib.Core.Option.{Option, none, some}
 use Rattle.std.proofs.lemmas.List.{length-map, length-take-le}
 use Rattle.model.specs.Automaton.{Automaton}
-use Rattle.model.specs.Positions.{Position, Solution, found, none_found, too_crowded, reach, member, safe_part, pruned, start_position, found_in, try_from, solve}
+use Rattle.model.specs.Positions.{Position, Solution, found, none_found, too_crowded, reach, member, safe_part, start_position, found_in, try_from, solve}
 use Rattle.synthesis.specs.declared.position.Position.{Position as Stored}
 use Rattle.synthesis.specs.Tables.{view}
 use Rattle.synthesis.specs.Safety.{flag}

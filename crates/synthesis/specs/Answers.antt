@@ -1,5 +1,5 @@
 -- What solve answers, and what it stores.
-use Rattle.std.specs.Prelude.{◌≡◌, ℕ, ◌+◌, ◌*◌, ◌<◌, ◌≤◌, List, [], map, length, take, slice_index, slice_index_or}
+use Rattle.std.specs.Prelude.{◌≡◌, ℕ, ◌+◌, ◌*◌, ◌≤◌, List, [], map, length, take, slice_index, slice_index_or}
 use Rattle.std.specs.List.{range_with_len}
 use Rattle.model.specs.Automaton.{Automaton, Row}
 use Rattle.model.specs.Positions.{Found, solve, found, none_found, too_crowded, command_at, safe_part}

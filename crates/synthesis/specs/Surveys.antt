@@ -1,5 +1,5 @@
 -- What the search among positions finds, and which of them are safe.
-use Rattle.std.specs.Prelude.{◌≡◌, ℕ, ◌+◌, ◌*◌, ◌<◌, ◌≤◌, Bool, true, false, cond, ◌&&◌, List, [], map, length, take, Some, None, Option, nat_lt, slice_index_or}
+use Rattle.std.specs.Prelude.{◌≡◌, ℕ, ◌<◌, ◌≤◌, Bool, true, false, cond, ◌&&◌, List, [], map, length, take, Some, None, Option, nat_lt, slice_index_or}
 use Rattle.std.proofs.Math.Option.{none, some}
 use Rattle.model.specs.Automaton.{Automaton}
 use Rattle.model.specs.Positions.{step, fits, reach, member, safe_part}

@@ -1,5 +1,5 @@
 -- What the tables stand for.
-use Rattle.std.specs.Prelude.{◌≡◌, ℕ, ◌+◌, ◌-◌, ◌<◌, ◌≤◌, Bool, true, false, cond, List, [], ◌++◌, length, get_or, take, replicate, Some, None, Option, slice_index_or}
+use Rattle.std.specs.Prelude.{◌≡◌, ℕ, ◌+◌, ◌-◌, ◌<◌, ◌≤◌, false, cond, List, [], ◌++◌, length, get_or, take, replicate, Some, None, Option, slice_index_or}
 use Rattle.model.specs.Automaton.{Automaton}
 use Rattle.model.specs.Positions.{mark, step, fits, solve}
 use Rattle.synthesis.specs.declared.arrows.Arrows.{Arrows}

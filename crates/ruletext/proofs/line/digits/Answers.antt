@@ -1,4 +1,4 @@
-use Rattle.std.proofs.Common.{inl, inr, arith}
+use Rattle.std.proofs.Common.{inl, inr}
 use Rattle.std.proofs.lemmas.Result.{err_from_is_err_and}
 use Rattle.ruletext.proofs.Loops.{through_more, through_wrong, through_end, through_none}
 use Rattle.ruletext.proofs.line.digits.Goals as goal

@@ -1,5 +1,5 @@
 use Rattle.std.proofs.lemmas.Bool.{ltb-true, ltb-false}
-use Rattle.std.proofs.Common.{◌≡◌, ℕ, suc, ◌+◌, ◌-◌, ◌*◌, ◌<◌, ◌≤◌, ◌∷◌, length, get_or, take, drop, sym, refl, ap, ◌∙◌, subst, arith}
+use Rattle.std.proofs.Common.{◌-◌, length, get_or, take, drop, sym, refl, ap, ◌∙◌, arith}
 use Rattle.model.specs.Text.{state_numbers}
 use Rattle.ruletext.specs.Lines.{states_of}
 use Rattle.ruletext.specs.Ranges.{first_outside}

@@ -1,8 +1,7 @@
-use Rattle.std.proofs.Common.{◌≡◌, ◌<◌, ◌≤◌, length, drop, sym, refl, ap, ◌∙◌, subst, arith}
+use Rattle.std.proofs.Common.{drop, arith}
 use Rattle.std.proofs.lemmas.Result.{err_from_is_err_and}
-use Rattle.model.specs.Text.{line_bytes}
 use Rattle.ruletext.specs.Lines.{line_of}
-use Rattle.ruletext.proofs.Lining.{line_whole, Whole, taken_on, taken_off}
+use Rattle.ruletext.proofs.Lining.{line_whole, taken_on, taken_off}
 use Rattle.ruletext.proofs.read.take_line.Goals as goal
 
 pub with_line-requires : goal.with_line-requires

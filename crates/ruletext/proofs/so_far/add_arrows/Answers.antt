@@ -1,8 +1,8 @@
-use Rattle.std.proofs.Common.{◌≡◌, ◌<◌, ◌≤◌, None, sym, arith}
+use Rattle.std.proofs.Common.{◌≡◌, None, sym, arith}
 use Rattle.model.specs.Text.{numbers, t_line}
 use Rattle.ruletext.specs.Lines.{arrows_of}
 use Rattle.ruletext.specs.Ranges.{first_outside}
-use Rattle.ruletext.proofs.Holding.{arrows_below, Leading, below_true}
+use Rattle.ruletext.proofs.Holding.{arrows_below, below_true}
 use Rattle.ruletext.proofs.so_far.add_arrows.Goals as goal
 
 pub connect-requires : goal.connect-requires

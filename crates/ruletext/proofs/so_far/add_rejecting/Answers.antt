@@ -1,4 +1,4 @@
-use Rattle.std.proofs.Common.{◌<◌, ◌≤◌, false, ◌||◌, get_or, sym, ap, ◌∙◌, arith}
+use Rattle.std.proofs.Common.{false, ◌||◌, get_or, sym, ap, ◌∙◌, arith}
 use Rattle.ruletext.specs.Lines.{states_in}
 use Rattle.ruletext.proofs.Adding.{counted_on_from_none}
 use Rattle.ruletext.proofs.Holding.{states_below}

@@ -1,9 +1,9 @@
 use Rattle.std.proofs.Common.{◌≡◌, ◌≤◌, length, None, sym, refl, ap, ◌∙◌, subst}
 use Rattle.model.specs.Text.{t_line, line_bytes, numbers}
-use Rattle.model.specs.Reading.{full, onward, with_arrows}
+use Rattle.model.specs.Reading.{full, with_arrows}
 use Rattle.ruletext.specs.Lines.{line_of, arrows_of}
 use Rattle.ruletext.specs.Ranges.{first_outside}
-use Rattle.ruletext.specs.Standing.{step, Drafted}
+use Rattle.ruletext.specs.Standing.{step}
 use Rattle.ruletext.proofs.Going.{t_length, step_on, arrows_drafted}
 use Rattle.ruletext.proofs.so_far.arrow_line.Goals as goal
 

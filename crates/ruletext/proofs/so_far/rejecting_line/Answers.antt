@@ -1,6 +1,6 @@
-use Rattle.std.proofs.Common.{◌≡◌, ◌≤◌, [], length, sym, refl, ap, ◌∙◌, subst}
+use Rattle.std.proofs.Common.{◌≤◌, [], length, refl, ap, ◌∙◌, subst}
 use Rattle.model.specs.Text.{TextRule, r_line, line_bytes}
-use Rattle.model.specs.Reading.{sized, full, onward}
+use Rattle.model.specs.Reading.{sized, full}
 use Rattle.ruletext.specs.Lines.{line_of, states_in}
 use Rattle.ruletext.specs.Standing.{step}
 use Rattle.ruletext.proofs.Going.{r_length, step_on, rejecting_drafted}

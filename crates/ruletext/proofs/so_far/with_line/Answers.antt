@@ -1,6 +1,4 @@
 use Rattle.std.proofs.Common.{subst}
-use Rattle.model.specs.Reading.{SoFar as Model}
-use Rattle.ruletext.specs.declared.so_far.SoFar.{SoFar}
 use Rattle.ruletext.specs.Standing.{Standing}
 use Rattle.ruletext.proofs.so_far.with_line.Goals as goal
 

@@ -1,4 +1,4 @@
-use Rattle.std.proofs.Common.{◌≡◌, ◌+◌, ◌≤◌, sym, ap, ◌∙◌, subst, arith}
+use Rattle.std.proofs.Common.{◌≡◌, ◌+◌, sym, ◌∙◌, subst, arith}
 use Rattle.ruletext.specs.Lines.{arrows_of}
 use Rattle.ruletext.specs.Tables.{Adds, under_command}
 use Rattle.ruletext.proofs.Adding.{under_commands, all_none, all_more, all_same, all_arrows}

@@ -1,6 +1,6 @@
-use Rattle.std.proofs.Common.{◌≡◌, ◌+◌, ◌≤◌, false, ◌||◌, get_or, sym, ap, ◌∙◌, subst, arith}
+use Rattle.std.proofs.Common.{◌≡◌, ◌+◌, false, ◌||◌, get_or, sym, ap, ◌∙◌, subst, arith}
 use Rattle.ruletext.specs.Lines.{arrows_of, states_in}
-use Rattle.ruletext.specs.Tables.{Adds, under_command, shifted, place}
+use Rattle.ruletext.specs.Tables.{Adds, under_command, shifted}
 use Rattle.ruletext.proofs.Adding.{under_none, under_more, under_same}
 use Rattle.ruletext.proofs.table.connect_under.Goals as goal
 use Rattle.ruletext.proofs.table.connect_under.Goals.{then-takes, else-takes}

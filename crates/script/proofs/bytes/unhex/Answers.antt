@@ -1,6 +1,6 @@
-use Rattle.std.proofs.Common.{◌≡◌, ℕ, ◌+◌, ◌*◌, ◌/◌, ◌<◌, ◌≤◌, List, [], ◌∷◌, ◌++◌, length, get_or, take, sym, ap, ◌∙◌, arith}
+use Rattle.std.proofs.Common.{ℕ, ◌<◌, List, length, ◌∙◌, arith}
 use Rattle.std.proofs.lemmas.List.{take_more, take_all}
-use Rattle.script.specs.Bytes.{hex_value, unhexed}
+use Rattle.script.specs.Bytes.{unhexed}
 use Rattle.script.proofs.Hex.{unhexed_length, unhexed_at}
 use Rattle.script.proofs.bytes.unhex.Goals as goal
 

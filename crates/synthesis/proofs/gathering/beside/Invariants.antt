@@ -1,6 +1,6 @@
-use Rattle.std.proofs.Common.{◌≡◌, ℕ, ◌<◌, true, false, length, get_or}
+use Rattle.std.proofs.Common.{◌≡◌, ℕ, ◌<◌, length, get_or}
 use Rattle.model.specs.Rules.{beside}
-use Rattle.synthesis.specs.Tables.{automaton, Into, Moving, Replying, no_sources, no_moves, no_replies}
+use Rattle.synthesis.specs.Tables.{automaton, Replying, no_replies}
 use Rattle.synthesis.proofs.gathering.beside.Given as goal
 
 abbrev pub invariant-loop-command : goal.invariant-loop-command

@@ -1,6 +1,6 @@
-use Rattle.std.proofs.Common.{◌≡◌, ℕ, ◌<◌, true, false, length, get_or}
+use Rattle.std.proofs.Common.{◌≡◌, ℕ, ◌<◌, length, get_or}
 use Rattle.model.specs.Rules.{beside}
-use Rattle.synthesis.specs.Tables.{automaton, Into, Moving, Replying, no_sources, no_moves, no_replies}
+use Rattle.synthesis.specs.Tables.{automaton, Into, no_sources}
 use Rattle.synthesis.proofs.gathering.moves.Given as goal
 
 abbrev pub invariant-loop-follower : goal.invariant-loop-follower

@@ -1,6 +1,6 @@
-use Rattle.std.proofs.Common.{◌≡◌, ℕ, ◌<◌, true, false, length, get_or}
+use Rattle.std.proofs.Common.{◌≡◌, ℕ, ◌<◌, false, length, get_or}
 use Rattle.model.specs.Rules.{beside}
-use Rattle.synthesis.specs.Tables.{automaton, Into, Moving, Replying, no_sources, no_moves, no_replies}
+use Rattle.synthesis.specs.Tables.{automaton}
 use Rattle.synthesis.proofs.gathering.rejects.Given as goal
 
 abbrev pub invariant-loop-state : goal.invariant-loop-state

@@ -1,6 +1,6 @@
-use Rattle.std.proofs.Common.{◌≡◌, ℕ, ◌+◌, true, false, cond, length, get_or, take, sym, ap, ◌∙◌, subst, arith}
+use Rattle.std.proofs.Common.{ℕ, cond, ap, ◌∙◌, arith}
 use Rattle.std.proofs.lemmas.List.{take_all}
-use Rattle.synthesis.specs.Safety.{trues, flag}
+use Rattle.synthesis.specs.Safety.{trues}
 use Rattle.synthesis.proofs.Whole.{trues_more}
 use Rattle.synthesis.proofs.numbering.count.Goals as goal
 use Rattle.synthesis.proofs.numbering.count.Goals.{then-flag, else-flag}

@@ -1,4 +1,4 @@
-use Rattle.std.proofs.Common.{◌≡◌, true, false, sym, ◌∙◌, arith}
+use Rattle.std.proofs.Common.{◌∙◌, arith}
 use mathlib.Core.Bool.{false≢true}
 use Rattle.synthesis.proofs.pruning.holds.Goals as goal
 

@@ -1,4 +1,4 @@
-use Rattle.std.proofs.Common.{true, false, Some, None, refl, arith, below_more}
+use Rattle.std.proofs.Common.{Some, None, refl, arith, below_more}
 use mathlib.Core.Bool.{false≢true}
 use Rattle.synthesis.specs.Safety.{flag, Holding}
 use Rattle.synthesis.proofs.Lowest.{Lowest, lowest_is}

@@ -1,6 +1,5 @@
-use Rattle.std.proofs.Common.{◌≡◌, ◌+◌, Bool, true, false, length, set, sym, ◌∙◌, subst, arith, rules}
+use Rattle.std.proofs.Common.{◌+◌, true, sym, subst, arith}
 use Rattle.synthesis.proofs.pruning.prune.Goals.{then-not-stays, else-not-stays}
-use Rattle.synthesis.specs.Safety.{Keeping, flag}
 use Rattle.synthesis.proofs.Pruned.{Pruning, prune_none, prune_stays, prune_takes, flag_inside}
 use Rattle.synthesis.proofs.pruning.prune.Goals as goal
 

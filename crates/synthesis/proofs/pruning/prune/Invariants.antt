@@ -1,4 +1,3 @@
-use Rattle.std.proofs.Common.{◌≡◌, ℕ, ◌<◌, ◌≤◌, true, false}
 use Rattle.synthesis.proofs.Pruned.{Pruning}
 use Rattle.synthesis.proofs.pruning.prune.Given as goal
 

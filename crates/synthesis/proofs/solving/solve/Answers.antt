@@ -1,4 +1,4 @@
-use Rattle.std.proofs.Common.{◌≡◌, ℕ, ◌-◌, ◌<◌, map, length, take, sym, ◌∙◌, subst, arith, take_at}
+use Rattle.std.proofs.Common.{◌≡◌, ◌-◌, ◌<◌, map, length, take, sym, ◌∙◌, subst, arith, take_at}
 use Rattle.std.proofs.lemmas.List.{length-take-le}
 use Rattle.model.specs.Rules.{together}
 use Rattle.synthesis.specs.Tables.{automaton}

@@ -1,4 +1,4 @@
-use Rattle.std.proofs.Common.{◌≡◌, ℕ, ◌≤◌, true, false, length, Some, sym, refl, ◌∙◌, subst, arith}
+use Rattle.std.proofs.Common.{◌≡◌, ◌≤◌, true, false, length, Some, sym, refl, ◌∙◌, subst, arith}
 use mathlib.Core.Option.{none}
 use Rattle.model.specs.Positions.{reach, member, safe_part, start_position, found_in}
 use Rattle.synthesis.specs.Tables.{automaton}

@@ -1,4 +1,4 @@
-use Rattle.std.proofs.Common.{◌≡◌, ℕ, suc, ◌-◌, length}
+use Rattle.std.proofs.Common.{◌≡◌, suc, ◌-◌, length}
 use Rattle.model.specs.Positions.{solve, try_from}
 use Rattle.synthesis.specs.Tables.{automaton}
 use Rattle.synthesis.proofs.solving.solve_table.Given as goal

@@ -1,4 +1,4 @@
-use Rattle.std.proofs.Common.{◌≡◌, ℕ, ◌+◌, sym, ap, ◌∙◌, arith}
+use Rattle.std.proofs.Common.{ℕ, ◌+◌, sym, ap, ◌∙◌}
 use Rattle.model.specs.Automaton.{weight}
 use Rattle.synthesis.specs.Tables.{automaton, view}
 use Rattle.synthesis.proofs.Marks.{grown, grown_present, grown_absent, largest_grown}

@@ -1,4 +1,4 @@
-use Rattle.std.proofs.Common.{◌≡◌, ℕ, max, Bool, cond, ◌&&◌, ltb, get_or, sym, ap, ◌∙◌, arith, get_or-take}
+use Rattle.std.proofs.Common.{◌≡◌, ℕ, max, cond, ◌&&◌, ltb, get_or, sym, ap, ◌∙◌, arith, get_or-take}
 use Rattle.std.proofs.lemmas.Bool.{lt-ltb, le-ltb}
 use Rattle.model.specs.Positions.{largest}
 use Rattle.synthesis.specs.Tables.{automaton, view, mark_before}

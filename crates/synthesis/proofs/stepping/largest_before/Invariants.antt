@@ -1,4 +1,4 @@
-use Rattle.std.proofs.Common.{◌≡◌, ℕ, false, cond, ◌&&◌, ltb, get_or}
+use Rattle.std.proofs.Common.{◌≡◌, cond, ◌&&◌, ltb, get_or}
 use Rattle.model.specs.Positions.{largest}
 use Rattle.synthesis.specs.Tables.{automaton}
 use Rattle.synthesis.proofs.stepping.largest_before.Given as goal

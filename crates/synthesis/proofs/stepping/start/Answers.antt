@@ -1,4 +1,4 @@
-use Rattle.std.proofs.Common.{◌≡◌, arith}
+use Rattle.std.proofs.Common.{arith}
 use Rattle.model.specs.Positions.{first_mark, start_position}
 use Rattle.synthesis.specs.Tables.{automaton}
 use Rattle.synthesis.proofs.Marks.{filled_more, filled_all}

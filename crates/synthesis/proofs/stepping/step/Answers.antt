@@ -1,6 +1,6 @@
 use Rattle.std.proofs.Common.{◌≡◌, ℕ, ◌+◌, ◌<◌, ◌≤◌, Some, ap, ◌∙◌, subst, arith, below_more}
 use Rattle.model.specs.Positions.{largest, handed, step}
-use Rattle.synthesis.specs.Tables.{automaton, view, stored, stepped}
+use Rattle.synthesis.specs.Tables.{automaton, view}
 use Rattle.synthesis.proofs.Marks.{filled_more, filled_all, all_fit, one_over, stepped_some, stepped_none}
 use Rattle.synthesis.proofs.stepping.step.Goals as goal
 

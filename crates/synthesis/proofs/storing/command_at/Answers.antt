@@ -1,4 +1,4 @@
-use Rattle.std.proofs.Common.{◌≡◌, ℕ, ◌-◌, length, take, Some, None, Option, ap, ◌∙◌, arith}
+use Rattle.std.proofs.Common.{◌≡◌, ℕ, ◌-◌, length, take, Some, None, ap, ◌∙◌, arith}
 use Rattle.synthesis.specs.Tables.{automaton}
 use Rattle.synthesis.specs.Safety.{lowest_kept}
 use Rattle.synthesis.proofs.Together.{command_told}

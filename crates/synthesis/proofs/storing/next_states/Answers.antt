@@ -1,4 +1,4 @@
-use Rattle.std.proofs.Common.{ℕ, ◌+◌, ◌*◌, get_or, refl, arith}
+use Rattle.std.proofs.Common.{◌+◌, ◌*◌, get_or, refl, arith}
 use Rattle.synthesis.proofs.Marks.{filled_more, filled_whole}
 use Rattle.synthesis.proofs.storing.next_states.Goals as goal
 

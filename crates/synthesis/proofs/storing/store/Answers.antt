@@ -1,6 +1,5 @@
-use Rattle.std.proofs.Common.{◌≡◌, ℕ, ◌<◌, List, [], length, get_or, take, sym, ap, ◌∙◌, arith}
+use Rattle.std.proofs.Common.{◌≡◌, ◌<◌, [], get_or, take, sym, ap, ◌∙◌, arith}
 use Rattle.std.proofs.lemmas.List.{length-take-le, get_or-map, get_or-take}
-use Rattle.synthesis.specs.declared.position.Position.{Position}
 use Rattle.synthesis.specs.declared.state.State.{State}
 use Rattle.synthesis.specs.Tables.{automaton, view}
 use Rattle.synthesis.specs.Surveys.{shown}

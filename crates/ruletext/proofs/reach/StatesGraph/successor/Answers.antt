@@ -1,5 +1,5 @@
-use Rattle.std.proofs.Common.{◌≡◌, sym, ◌∙◌}
-use Rattle.ruletext.proofs.Meeting.{as_led, follower_there, follower_not, not_led, not_below}
+use Rattle.std.proofs.Common.{sym, ◌∙◌}
+use Rattle.ruletext.proofs.Meeting.{as_led, follower_there, not_led, not_below}
 use Rattle.ruletext.proofs.reach.StatesGraph.successor.Goals as goal
 use Rattle.ruletext.proofs.reach.StatesGraph.successor.Goals.{else-node-lt8-via-then-node-lt8+else-leads, else-node-lt8-via-else-node-lt8}
 

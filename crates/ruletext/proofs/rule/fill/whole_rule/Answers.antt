@@ -1,10 +1,9 @@
-use Rattle.std.proofs.Common.{◌≡◌, ℕ, ◌<◌, Bool, true, false, eqb, length, take, sym, refl, ap, ◌∙◌, subst, arith}
+use Rattle.std.proofs.Common.{◌≡◌, ◌<◌, true, false, eqb, length, take, sym, ap, ◌∙◌, subst, arith}
 use Rattle.std.proofs.lemmas.Bool.{ne_eqb}
 use Rattle.model.specs.Text.{good_name, ReadRule, blank, filled, named_rule}
-use Rattle.model.specs.Reading.{SoFar, at_end}
+use Rattle.model.specs.Reading.{at_end}
 use Rattle.ruletext.specs.Tables.{automaton}
-use Rattle.ruletext.specs.Standing.{Standing, Drafted}
-use Rattle.ruletext.specs.declared.so_far.SoFar.TheVariants.{Full}
+use Rattle.ruletext.specs.Standing.{Standing}
 use Rattle.ruletext.proofs.Filling.{small, some_state, start_below, name_short, name_good, within, rejects_below, end_unreached, end_reached, same_named}
 use Rattle.ruletext.proofs.rule.fill.whole_rule.Goals as goal
 
