@@ -1,7 +1,7 @@
 //! The table of rules side by side, made by asking each rule each question once.
 
 ghost use Rattle.std.specs.Prelude.{◌≡◌, ℕ, ◌+◌, ◌<◌, ◌≤◌, false, map, slice_index_or};
-ghost use Rattle.std.specs.List.{AllByRecursion as All};
+ghost use Rattle.std.specs.List.{AllByRecursion};
 ghost use Rattle.model.specs.Rules.{beside as side_by_side, together};
 ghost use Rattle.synthesis.specs.Tables.{automaton, Agrees, Alike, Joins, Into, Moving, Replying, SolvesAlike};
 
@@ -179,7 +179,7 @@ fn beside<R: Rule>(arrows: &Arrows, rule: &R) -> Arrows
 /// The rules side by side: the house rule, then the added ones in order. They have the same numbers of situations and commands, and
 /// at most 16 states in all.
 pub fn gather<R: Rule, T: Rule>(house: &R, added: &[T]) -> Arrows
-    requires alike { All (Alike (R.Rule.meaning house.now)) (map T.Rule.meaning added.now) }
+    requires alike { AllByRecursion (Alike (R.Rule.meaning house.now)) (map T.Rule.meaning added.now) }
     requires room { (together (R.Rule.meaning house.now) (map T.Rule.meaning added.now)).states ≤ 16 }
     ensures agrees { Agrees (automaton result) (together (R.Rule.meaning house.now) (map T.Rule.meaning added.now)) }
     ensures some { 0 < result.commands }

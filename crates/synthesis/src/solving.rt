@@ -1,7 +1,7 @@
 //! Solve: bound after bound, up to the limit.
 
 ghost use Rattle.std.specs.Prelude.{◌*◌, ◌<◌, ◌≤◌, map, length};
-ghost use Rattle.std.specs.List.{AllByRecursion as All};
+ghost use Rattle.std.specs.List.{AllByRecursion};
 ghost use Rattle.model.specs.Rules.{together};
 ghost use Rattle.synthesis.specs.Tables.{automaton, Alike};
 ghost use Rattle.synthesis.specs.Answers.{Answered};
@@ -74,7 +74,7 @@ pub fn solve<R: Rule, T: Rule>(
     limit: u8,
     workspace: &mut Workspace,
 ) -> Solved
-    requires alike { All (Alike (R.Rule.meaning house.now)) (map T.Rule.meaning added.now) }
+    requires alike { AllByRecursion (Alike (R.Rule.meaning house.now)) (map T.Rule.meaning added.now) }
     requires room { (together (R.Rule.meaning house.now) (map T.Rule.meaning added.now)).states ≤ 16 }
     requires capacity { (1 ≤ capacity) × (capacity ≤ 1024) }
     requires limit { limit ≤ 14 }
