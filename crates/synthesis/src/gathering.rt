@@ -158,7 +158,8 @@ fn rejects<R: Rule>(arrows: &Arrows, rule: &R) -> [bool; 16]
 /// The rules of the table, and one more beside them.
 fn beside<R: Rule>(arrows: &Arrows, rule: &R) -> Arrows
     requires joins { Joins arrows.now (R.Rule.meaning rule.now) }
-    ensures { Agrees (automaton result) (side_by_side (automaton arrows.now) (R.Rule.meaning rule.now)) }
+    ensures agrees { Agrees (automaton result) (side_by_side (automaton arrows.now) (R.Rule.meaning rule.now)) }
+    ensures some { 0 < result.states }
 {
     let mut all = [NO_REPLIES; 8];
     for command in 0..arrows.commands {
@@ -182,7 +183,7 @@ pub fn gather<R: Rule, T: Rule>(house: &R, added: &[T]) -> Arrows
     requires alike { AllByRecursion (Alike (R.Rule.meaning house.now)) (map T.Rule.meaning added.now) }
     requires room { (together (R.Rule.meaning house.now) (map T.Rule.meaning added.now)).states ≤ 16 }
     ensures agrees { Agrees (automaton result) (together (R.Rule.meaning house.now) (map T.Rule.meaning added.now)) }
-    ensures some { 0 < result.commands }
+    ensures some { (0 < result.situations) × (0 < result.commands) × (0 < result.states) }
 {
     let mut arrows = beside(&empty(house.situations(), house.commands()), house);
     for rule in added {

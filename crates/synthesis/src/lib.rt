@@ -15,6 +15,7 @@ pub mod state;
 pub mod stepping;
 pub mod storing;
 pub mod surveying;
+pub mod table;
 #[cfg(test)]
 mod tests;
 pub mod workspace;

@@ -17,26 +17,37 @@ pub beside-arrows-requires-in-loop-rule : goal.beside-arrows-requires-in-loop-ru
 beside-arrows-requires-in-loop-rule g c =
     record {
       joins = joins_next (g.R.Rule.meaning c.args.house.now) g.T.Rule.meaning c.args.added.now c.requires.alike c.requires.room c.loop-rule.rule-index c.rule-item.result (omega arith) c.rule-item.is
-          c.loop-rule.arrows c.loop-rule.invariant;
+          c.loop-rule.arrows c.loop-rule.invariant.0;
     }
 
 pub loop-rule-init : goal.loop-rule-init
 loop-rule-init g c =
     let H = g.R.Rule.meaning c.args.house.now in
-    let n = c.empty.ensures in
-    agrees_trans (automaton c.beside-arrows.result) (beside (automaton c.empty.result) H) H c.beside-arrows.ensures
-    (agrees_none (automaton c.empty.result) H (n.situations ∙ c.situations.ensures.value) (n.commands ∙ c.commands.ensures.value) n.states)
+    let n = c.empty.ensures in (
+      agrees_trans (automaton c.beside-arrows.result) (beside (automaton c.empty.result) H) H c.beside-arrows.ensures.agrees
+          (agrees_none (automaton c.empty.result) H (n.situations ∙ c.situations.ensures.value) (n.commands ∙ c.commands.ensures.value) n.states),
+      c.beside-arrows.ensures.some,
+    )
 
 pub loop-rule-preserved : goal.loop-rule-preserved
-loop-rule-preserved g c =
-    agrees_next (g.R.Rule.meaning c.args.house.now) g.T.Rule.meaning c.args.added.now c.requires.alike c.requires.room c.loop-rule.rule-index c.rule-item.result (omega arith) c.rule-item.is
-    c.loop-rule.arrows c.beside-arrows-in-loop-rule.result c.loop-rule.invariant c.beside-arrows-in-loop-rule.ensures
+loop-rule-preserved g c = (
+  agrees_next (g.R.Rule.meaning c.args.house.now) g.T.Rule.meaning c.args.added.now c.requires.alike c.requires.room c.loop-rule.rule-index c.rule-item.result (omega arith) c.rule-item.is
+      c.loop-rule.arrows c.beside-arrows-in-loop-rule.result c.loop-rule.invariant.0 c.beside-arrows-in-loop-rule.ensures.agrees,
+  c.beside-arrows-in-loop-rule.ensures.some,
+)
 
 pub returns : goal.returns
 returns g c =
     let H = g.R.Rule.meaning c.args.house.now in
     let all = map g.T.Rule.meaning c.args.added.now in
     let agrees : Agrees (automaton c.loop-rule.arrows) (together H all) =
-    subst (λ xs. Agrees (automaton c.loop-rule.arrows) (together H (map g.T.Rule.meaning xs))) (take_all c.loop-rule.rule-index c.args.added.now (omega arith)) c.loop-rule.invariant in
+    subst (λ xs. Agrees (automaton c.loop-rule.arrows) (together H (map g.T.Rule.meaning xs))) (take_all c.loop-rule.rule-index c.args.added.now (omega arith)) c.loop-rule.invariant.0 in
     let stay = numbers_stay H all c.requires.alike in
-    record { agrees = agrees; some = omega (arith, agrees.commands, stay.1, c.commands.ensures.value, c.commands.ensures.range.0) }
+    record {
+      agrees = agrees;
+      some = (
+        omega (arith, agrees.situations, stay.0, c.situations.ensures.value, c.situations.ensures.range.0),
+        omega (arith, agrees.commands, stay.1, c.commands.ensures.value, c.commands.ensures.range.0),
+        c.loop-rule.invariant.1,
+      );
+    }
