@@ -7,7 +7,7 @@ use Rattle.model.specs.declared.refusal.Refusal.TheVariants.{Trailer, OtherSheet
 use Rattle.model.specs.Automaton.{Automaton, weight, Row, no_row}
 use Rattle.model.specs.Lists.{every, first, In}
 use Rattle.model.specs.Positions.{same}
-use Rattle.model.specs.File.{number_of, piece, file_mark, records_size, certificate_size, trailer, file, Window, mark_in, good_row, bad_byte, bad_start, bad_arrow, place, byte_places, start_places, arrow_places, first_broken, look_through, check}
+use Rattle.model.specs.File.{number_of, piece, file_mark, records_size, certificate_size, trailer, file, Window, mark_in, good_row, bad_byte, bad_start, bad_arrow, byte_places, start_places, arrow_places, first_broken, look_through, check}
 use Rattle.model.proofs.Files.{window_at}
 use Rattle.model.proofs.Checking.{starts_in, arrows_in}
 use Rattle.synthesis.specs.Tables.{Agrees}

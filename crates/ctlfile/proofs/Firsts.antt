@@ -3,7 +3,7 @@ use Rattle.std.proofs.Common.{◌≡◌, ℕ, zero, suc, ◌+◌, ◌<◌, ◌�
 use mathlib.Core.Option.{Option, none, some}
 use Rattle.std.specs.List.{range_with_len}
 use Rattle.std.proofs.lemmas.Bool.{cases_eq}
-use Rattle.model.specs.Lists.{first, every, joined, In}
+use Rattle.model.specs.Lists.{first, joined}
 use Rattle.ctlfile.specs.Windows.{told}
 
 -- an option as the code has it

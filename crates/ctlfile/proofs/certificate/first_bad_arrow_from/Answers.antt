@@ -1,7 +1,6 @@
-use Rattle.std.proofs.Common.{◌≡◌, ℕ, ◌+◌, ◌<◌, Bool, false, ◌&&◌, ltb, length, Some, Option as Maybe, sym, ap, ◌∙◌, arith, below_more}
-use Rattle.model.specs.Automaton.{Automaton, weight}
+use Rattle.std.proofs.Common.{◌≡◌, false, Some, Option as Maybe, sym, ap, ◌∙◌, arith, below_more}
 use Rattle.model.specs.declared.refusal.Place.{Place}
-use Rattle.model.specs.File.{mark_in, bad_arrow, place}
+use Rattle.model.specs.File.{bad_arrow, place}
 use Rattle.ctlfile.specs.Windows.{shown}
 use Rattle.ctlfile.proofs.Firsts.{map_none_told, map_some_told}
 use Rattle.ctlfile.proofs.Showing.{rows_count, nexts_count}
@@ -15,20 +14,20 @@ returns-then-mark-eq0 g c =
     let s = c.args.state in
     let x = c.args.situation in
     let q = c.args.rule_state in
-    map_none_told (bad_arrow A (shown w)) (λ p. place s x q p) w.rule_states (λ p l. absent_arrow A (shown w) s x q p (omega (arith, c.mark-at-mark.ensures)))
+    map_none_told (bad_arrow A (shown w)) (λ p. place s x q p) w.rule_states (λ p l. absent_arrow A (shown w) s x q p (omega (arith, c.mark_at-mark.ensures)))
 
-pub returns-then-is-bad-arrow : goal.returns-then-is-bad-arrow
-returns-then-is-bad-arrow g c =
+pub returns-then-is_bad_arrow : goal.returns-then-is_bad_arrow
+returns-then-is_bad_arrow g c =
     let w = c.args.window.now in
     let A = g.R.Rule.meaning c.args.rule.now in
     let s = c.args.state in
     let x = c.args.situation in
     let q = c.args.rule_state in
     let p = c.loop-follower.follower in
-    ap {B = Maybe Place} Some c.place-at.ensures
+    ap {B = Maybe Place} Some c.place_at.ensures
     ∙ map_some_told (bad_arrow A (shown w)) (λ p. place s x q p) w.rule_states p (omega arith) c.loop-follower.invariant
-    (arrow_test A (shown w) s x q p c.mark-at-mark.result c.command_at.result c.next_at.result c.mark-at-mark.ensures (omega arith) c.command_at.ensures c.next_at.ensures
-    ∙ sym c.is-bad-arrow.ensures ∙ c.if-is-bad-arrow.true)
+    (arrow_test A (shown w) s x q p c.mark_at-mark.result c.command_at.result c.next_at.result c.mark_at-mark.ensures (omega arith) c.command_at.ensures c.next_at.ensures
+    ∙ sym c.is_bad_arrow.ensures ∙ c.if-is_bad_arrow.true)
 
 pub loop-follower-preserved : goal.loop-follower-preserved
 loop-follower-preserved g c =
@@ -39,21 +38,21 @@ loop-follower-preserved g c =
     let q = c.args.rule_state in
     let p = c.loop-follower.follower in
     below_more (λ k. bad_arrow A (shown w) (place s x q k) ≡ false) p c.loop-follower.invariant
-    (arrow_test A (shown w) s x q p c.mark-at-mark.result c.command_at.result c.next_at.result c.mark-at-mark.ensures (omega arith) c.command_at.ensures c.next_at.ensures
-    ∙ sym c.is-bad-arrow.ensures ∙ c.if-is-bad-arrow.false)
+    (arrow_test A (shown w) s x q p c.mark_at-mark.result c.command_at.result c.next_at.result c.mark_at-mark.ensures (omega arith) c.command_at.ensures c.next_at.ensures
+    ∙ sym c.is_bad_arrow.ensures ∙ c.if-is_bad_arrow.false)
 
-pub is-bad-arrow-requires : goal.is-bad-arrow-requires
-is-bad-arrow-requires g c =
+pub is_bad_arrow-requires : goal.is_bad_arrow-requires
+is_bad_arrow-requires g c =
     let w = c.args.window.now in
     let A = g.R.Rule.meaning c.args.rule.now in
     let s = c.args.state in
     let rows = rows_count w.states w.situations w.rule_states w.count w.records.now w.certificate.now in
-    let nexts = nexts_count w.states w.situations w.rule_states w.count w.records.now w.certificate.now s c.requires.known-state in
+    let nexts = nexts_count w.states w.situations w.rule_states w.count w.records.now w.certificate.now s c.requires.known_state in
     record {
       fits = c.requires.fits;
-      known-states = (c.requires.known-rule-state, c.loop-follower-test.true);
-      known-command = omega (arith, c.command_at.ensures, good_command A (shown w) s c.requires.good (omega arith));
-      known-situation = c.requires.known-situation;
+      known_states = (c.requires.known_rule_state, c.loop-follower-test.true);
+      known_command = omega (arith, c.command_at.ensures, good_command A (shown w) s c.requires.good (omega arith));
+      known_situation = c.requires.known_situation;
       known_next = omega (arith, c.next_at.ensures, good_next A (shown w) s c.args.situation c.requires.good (omega arith) (omega arith));
     }
 

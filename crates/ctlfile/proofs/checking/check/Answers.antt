@@ -6,36 +6,36 @@ use Rattle.ctlfile.specs.Windows.{shown}
 use Rattle.ctlfile.proofs.Broken.{not_records, broken, whole, count_shown}
 use Rattle.ctlfile.proofs.checking.check.Goals as goal
 
-pub window-on-window-requires : goal.window-on-window-requires
-window-on-window-requires g c =
-    let t = c.in-ok-trailer.ensures in
+pub window_on-window-requires : goal.window_on-window-requires
+window_on-window-requires g c =
+    let t = c.in_ok-trailer.ensures in
     record { states = (t.some_state, t.few_states); count = t.low_count; room = t.room }
 
-pub first-bad-place-requires : goal.first-bad-place-requires
-first-bad-place-requires g c =
-    let t = c.in-ok-trailer.ensures in
+pub first_bad_place-requires : goal.first_bad_place-requires
+first_bad_place-requires g c =
+    let t = c.in_ok-trailer.ensures in
     record {
-      fits = record { situations = c.window-on-window.ensures.situations ∙ t.situations; states = c.window-on-window.ensures.rule_states ∙ t.states };
-      good = sym c.are-good-records.ensures ∙ c.if-not-are-good-records.false;
+      fits = record { situations = c.window_on-window.ensures.situations ∙ t.situations; states = c.window_on-window.ensures.rule_states ∙ t.states };
+      good = sym c.are_good_records.ensures ∙ c.if-not-are_good_records.false;
     }
 
-pub returns-then-not-are-good-records : goal.returns-then-not-are-good-records
-returns-then-not-are-good-records g c =
+pub returns-then-not-are_good_records : goal.returns-then-not-are_good_records
+returns-then-not-are_good_records g c =
     let A = g.R.Rule.meaning c.args.rule.now in
-    let w = c.window-on-window.result in
-    let through : File.check A c.args.file.now ≡ look_through A (shown w) = c.in-ok-trailer.ensures.through ∙ ap {B = Result ℕ Refusal} (look_through A) (sym c.window-on-window.ensures.shows) in
-    sym (through ∙ not_records A (shown w) (sym c.are-good-records.ensures ∙ c.if-not-are-good-records.true))
+    let w = c.window_on-window.result in
+    let through : File.check A c.args.file.now ≡ look_through A (shown w) = c.in_ok-trailer.ensures.through ∙ ap {B = Result ℕ Refusal} (look_through A) (sym c.window_on-window.ensures.shows) in
+    sym (through ∙ not_records A (shown w) (sym c.are_good_records.ensures ∙ c.if-not-are_good_records.true))
 
 pub returns-in-Some : goal.returns-in-Some
 returns-in-Some g c =
     let A = g.R.Rule.meaning c.args.rule.now in
-    let w = c.window-on-window.result in
-    let through : File.check A c.args.file.now ≡ look_through A (shown w) = c.in-ok-trailer.ensures.through ∙ ap {B = Result ℕ Refusal} (look_through A) (sym c.window-on-window.ensures.shows) in
-    sym (through ∙ broken A (shown w) c.in-Some.place (sym c.are-good-records.ensures ∙ c.if-not-are-good-records.false) c.in-Some.ensures)
+    let w = c.window_on-window.result in
+    let through : File.check A c.args.file.now ≡ look_through A (shown w) = c.in_ok-trailer.ensures.through ∙ ap {B = Result ℕ Refusal} (look_through A) (sym c.window_on-window.ensures.shows) in
+    sym (through ∙ broken A (shown w) c.in-Some.place (sym c.are_good_records.ensures ∙ c.if-not-are_good_records.false) c.in-Some.ensures)
 
 pub returns-in-None : goal.returns-in-None
 returns-in-None g c =
     let A = g.R.Rule.meaning c.args.rule.now in
-    let w = c.window-on-window.result in
-    let through : File.check A c.args.file.now ≡ look_through A (shown w) = c.in-ok-trailer.ensures.through ∙ ap {B = Result ℕ Refusal} (look_through A) (sym c.window-on-window.ensures.shows) in
-    sym (through ∙ whole A (shown w) (sym c.are-good-records.ensures ∙ c.if-not-are-good-records.false) c.in-None.ensures ∙ ap {B = Result ℕ Refusal} Ok (count_shown w))
+    let w = c.window_on-window.result in
+    let through : File.check A c.args.file.now ≡ look_through A (shown w) = c.in_ok-trailer.ensures.through ∙ ap {B = Result ℕ Refusal} (look_through A) (sym c.window_on-window.ensures.shows) in
+    sym (through ∙ whole A (shown w) (sym c.are_good_records.ensures ∙ c.if-not-are_good_records.false) c.in-None.ensures ∙ ap {B = Result ℕ Refusal} Ok (count_shown w))

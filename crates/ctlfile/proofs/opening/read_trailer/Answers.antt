@@ -8,7 +8,7 @@ pub returns : goal.returns
 unfolding trailer_in
 returns c =
     let end = c.args.end.now in
-    let states : c.from-le-bytes.result ≡ number_of (piece 12 2 end) = c.from-le-bytes.ensures ∙ sym (two_at 12 end) in
+    let states : c.from_le_bytes.result ≡ number_of (piece 12 2 end) = c.from_le_bytes.ensures ∙ sym (two_at 12 end) in
     λ i. record {
       to_records = c.distance.ensures i;
       to_certificate = c.distance-2.ensures i;

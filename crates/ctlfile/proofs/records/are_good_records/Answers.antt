@@ -6,15 +6,15 @@ use Rattle.ctlfile.proofs.Showing.{rows_count}
 use Rattle.ctlfile.proofs.Testing.{every_passes, every_fails}
 use Rattle.ctlfile.proofs.records.are_good_records.Goals as goal
 
-pub returns-then-not-is-good-record : goal.returns-then-not-is-good-record
-returns-then-not-is-good-record g c =
+pub returns-then-not-is_good_record : goal.returns-then-not-is_good_record
+returns-then-not-is_good_record g c =
     let w = c.args.window.now in
     let A = g.R.Rule.meaning c.args.rule.now in
     let rows = (shown w).rows in
     let long : length rows ≡ w.states = rows_count w.states w.situations w.rule_states w.count w.records.now w.certificate.now in
     let s = c.loop-state.state in
     sym (every_fails (good_row A (length rows)) rows s no_row (omega arith)
-    (ap {B = Bool} (λ m. good_row A m (get_or rows s no_row)) long ∙ sym c.is-good-record.ensures ∙ c.if-not-is-good-record.true))
+    (ap {B = Bool} (λ m. good_row A m (get_or rows s no_row)) long ∙ sym c.is_good_record.ensures ∙ c.if-not-is_good_record.true))
 
 pub returns : goal.returns
 returns g c =

@@ -1,4 +1,4 @@
-use Rattle.std.proofs.Common.{◌≡◌, ltb, length, get_or, sym, arith}
+use Rattle.std.proofs.Common.{ltb, get_or, sym, arith}
 use Rattle.std.proofs.lemmas.Bool.{lt-ltb, le-ltb, and_from, and_right}
 use Rattle.model.specs.Automaton.{Row, no_row}
 use Rattle.model.specs.Lists.{every}
@@ -7,8 +7,8 @@ use Rattle.ctlfile.proofs.Showing.{nexts_count}
 use Rattle.ctlfile.proofs.Testing.{every_passes, every_fails}
 use Rattle.ctlfile.proofs.records.is_good_record.Goals as goal
 
-pub returns-then-next-at-window : goal.returns-then-next-at-window
-returns-then-next-at-window g c =
+pub returns-then-next_at-window : goal.returns-then-next_at-window
+returns-then-next_at-window g c =
     let w = c.args.window.now in
     let r : Row = get_or (shown w).rows c.args.state no_row in
     let long = nexts_count w.states w.situations w.rule_states w.count w.records.now w.certificate.now c.args.state c.requires in

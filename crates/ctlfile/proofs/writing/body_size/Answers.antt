@@ -16,7 +16,7 @@ loop-state-preserved c =
     let none : State = record { command = 0; nexts = []; position = record { marks = [] } } in
     let a = ap {B = ℕ} length (joined_map_step record_bytes (row_of S) states s none (omega arith)) ∙ length-append (joined record_bytes (map (row_of S) (take s states))) (record_bytes (row_of S (get_or states s none))) in
     let b = ap {B = ℕ} length (joined_map_step (map tally_byte) (position_of n) states s none (omega arith)) ∙ length-append (joined (map tally_byte) (map (position_of n) (take s states))) (map tally_byte (position_of n (get_or states s none))) in
-    let more = c.state-size-size.ensures in
+    let more = c.state_size-size.ensures in
     (omega (arith, a, b, more.takes, c.loop-state.invariant.0), omega (arith, more.counted, c.loop-state.invariant.1))
 
 pub returns : goal.returns

@@ -8,33 +8,33 @@ use Rattle.ctlfile.proofs.writing.write.Goals as goal
 pub returns-then-buffer-body : goal.returns-then-buffer-body
 returns-then-buffer-body g c =
     let A = g.R.Rule.meaning c.args.rule.now in
-    let t = c.trailer-for-trailer.result in
-    let body = c.body-size-body.result in
+    let t = c.trailer_for-trailer.result in
+    let body = c.body_size-body.result in
     record {
-      said = refused_said A c.args.states.now c.args.count t c.trailer-for-trailer.ensures.told body c.body-size-body.ensures.takes c.args.buffer.now c.if-buffer-body.true;
-      left = refused_left A c.args.states.now c.args.count t c.trailer-for-trailer.ensures.told body c.body-size-body.ensures.takes c.args.buffer.now c.if-buffer-body.true;
+      said = refused_said A c.args.states.now c.args.count t c.trailer_for-trailer.ensures.told body c.body_size-body.ensures.takes c.args.buffer.now c.if-buffer-body.true;
+      left = refused_left A c.args.states.now c.args.count t c.trailer_for-trailer.ensures.told body c.body_size-body.ensures.takes c.args.buffer.now c.if-buffer-body.true;
     }
 
-pub write-records-requires : goal.write-records-requires
-write-records-requires g c =
-    let t = c.trailer-for-trailer.result in
-    let m : t.states ≡ length c.args.states.now = ap {B = ℕ} (λ (u : Trailer). u.states) c.trailer-for-trailer.ensures.told in
-    let size : c.records-size-records.result ≡ length c.args.states.now * (1 + 2 * t.situations) = c.records-size-records.ensures ∙ ap {B = ℕ} (λ k. k * (1 + 2 * t.situations)) m in
-    let inside : c.records-size-records.result - 0 ≤ length c.args.buffer.now = omega (arith, size, c.body-size-body.ensures.counted, c.if-buffer-body.false) in
-    record { few = c.trailer-for-trailer.ensures.few; room = omega (arith, length-take-le (c.records-size-records.result - 0) c.args.buffer.now inside, size) }
+pub write_records-requires : goal.write_records-requires
+write_records-requires g c =
+    let t = c.trailer_for-trailer.result in
+    let m : t.states ≡ length c.args.states.now = ap {B = ℕ} (λ (u : Trailer). u.states) c.trailer_for-trailer.ensures.told in
+    let size : c.records_size-records.result ≡ length c.args.states.now * (1 + 2 * t.situations) = c.records_size-records.ensures ∙ ap {B = ℕ} (λ k. k * (1 + 2 * t.situations)) m in
+    let inside : c.records_size-records.result - 0 ≤ length c.args.buffer.now = omega (arith, size, c.body_size-body.ensures.counted, c.if-buffer-body.false) in
+    record { few = c.trailer_for-trailer.ensures.few; room = omega (arith, length-take-le (c.records_size-records.result - 0) c.args.buffer.now inside, size) }
 
 pub returns : goal.returns
 unfolding tallies
 returns g c =
     let A = g.R.Rule.meaning c.args.rule.now in
-    let t = c.trailer-for-trailer.result in
-    let body = c.body-size-body.result in
-    let m : t.states ≡ length c.args.states.now = ap {B = ℕ} (λ (u : Trailer). u.states) c.trailer-for-trailer.ensures.told in
-    let size : c.records-size-records.result ≡ length c.args.states.now * (1 + 2 * t.situations) = c.records-size-records.ensures ∙ ap {B = ℕ} (λ k. k * (1 + 2 * t.situations)) m in
+    let t = c.trailer_for-trailer.result in
+    let body = c.body_size-body.result in
+    let m : t.states ≡ length c.args.states.now = ap {B = ℕ} (λ (u : Trailer). u.states) c.trailer_for-trailer.ensures.told in
+    let size : c.records_size-records.result ≡ length c.args.states.now * (1 + 2 * t.situations) = c.records_size-records.ensures ∙ ap {B = ℕ} (λ k. k * (1 + 2 * t.situations)) m in
     record {
-      said = put_said A c.args.states.now c.args.count t c.trailer-for-trailer.ensures.told body c.body-size-body.ensures.takes c.args.buffer.now c.if-buffer-body.false;
+      said = put_said A c.args.states.now c.args.count t c.trailer_for-trailer.ensures.told body c.body_size-body.ensures.takes c.args.buffer.now c.if-buffer-body.false;
       left =
-          put_left A c.args.states.now c.args.count t c.trailer-for-trailer.ensures.told body c.body-size-body.ensures.takes c.args.buffer.now
-          c.records-size-records.result c.write-records.new.part c.write-certificate.new.part c.copy-from-slice.new.self
-          c.write-records.ensures c.write-certificate.ensures (c.copy-from-slice.ensures.after ∙ c.bytes.ensures) (omega arith) (omega (arith, size, c.body-size-body.ensures.counted)) c.if-buffer-body.false;
+          put_left A c.args.states.now c.args.count t c.trailer_for-trailer.ensures.told body c.body_size-body.ensures.takes c.args.buffer.now
+          c.records_size-records.result c.write_records.new.part c.write_certificate.new.part c.copy_from_slice.new.self
+          c.write_records.ensures c.write_certificate.ensures (c.copy_from_slice.ensures.after ∙ c.bytes.ensures) (omega arith) (omega (arith, size, c.body_size-body.ensures.counted)) c.if-buffer-body.false;
     }

@@ -13,8 +13,8 @@ loop-situation-preserved c =
     let x = c.loop-situation.situation in
     let nexts : List ℕ = c.args.state.now.nexts in
     let command = c.args.state.now.command in
-    let ys : List ℕ = c.copy-from-slice.new.self in
-    let bytes : ys ≡ bytes_of 2 (get_or nexts x 0) = c.copy-from-slice.ensures.after ∙ c.to-le-bytes.ensures in
+    let ys : List ℕ = c.copy_from_slice.new.self in
+    let bytes : ys ≡ bytes_of 2 (get_or nexts x 0) = c.copy_from_slice.ensures.after ∙ c.to_le_bytes.ensures in
     let long : length ys ≡ 2 = ap {B = ℕ} length bytes in
     filled_more (1 + 2 * x) (1 + 2 * x + 2 - (1 + 2 * x)) (1 + 2 * (x + 1)) c.loop-situation.part ys (command ∷ joined (bytes_of 2) (take x nexts)) c.loop-situation.invariant (omega (arith, long)) (omega (arith, length-set c.args.part.now 0 command)) (omega arith)
     ∙ ap {B = List ℕ} (λ l. command ∷ (joined (bytes_of 2) (take x nexts) ++ l)) bytes

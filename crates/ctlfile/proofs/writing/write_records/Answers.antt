@@ -1,4 +1,4 @@
-use Rattle.std.proofs.Common.{◌≡◌, ℕ, ◌+◌, ◌-◌, ◌*◌, List, [], ◌++◌, map, length, get_or, take, sym, ap, ◌∙◌, arith}
+use Rattle.std.proofs.Common.{◌≡◌, ℕ, ◌+◌, ◌-◌, ◌*◌, List, [], ◌++◌, map, length, take, sym, ap, ◌∙◌, arith}
 use Rattle.std.proofs.lemmas.List.{take_all}
 use Rattle.synthesis.specs.declared.state.State.{State}
 use Rattle.synthesis.specs.Answers.{row_of}
@@ -8,8 +8,8 @@ use Rattle.ctlfile.proofs.Showing.{row_inside}
 use Rattle.ctlfile.proofs.Filling.{joined_map_step, filled_more, filled_all}
 use Rattle.ctlfile.proofs.writing.write_records.Goals as goal
 
-pub slice-bounds-write-record-end : goal.slice-bounds-write-record-end
-slice-bounds-write-record-end c = omega (arith, row_inside (length c.args.states.now) (1 + 2 * c.args.situations) c.loop-state.state c.loop-state-test.true)
+pub slice_bounds-write_record-end : goal.slice_bounds-write_record-end
+slice_bounds-write_record-end c = omega (arith, row_inside (length c.args.states.now) (1 + 2 * c.args.situations) c.loop-state.state c.loop-state-test.true)
 
 pub loop-state-preserved : goal.loop-state-preserved
 loop-state-preserved c =
@@ -18,10 +18,10 @@ loop-state-preserved c =
     let states : List State = c.args.states.now in
     let none : State = record { command = 0; nexts = []; position = record { marks = [] } } in
     let inside = row_inside (length states) (1 + 2 * S) s c.loop-state-test.true in
-    let ys : List ℕ = c.write-record.new.part in
+    let ys : List ℕ = c.write_record.new.part in
     let front : List ℕ = joined record_bytes (map (row_of S) (take s states)) in
     filled_more (s * (1 + 2 * S)) (s * (1 + 2 * S) + (1 + 2 * S) - s * (1 + 2 * S)) ((s + 1) * (1 + 2 * S)) c.loop-state.part ys front c.loop-state.invariant (omega arith) (omega arith) (omega arith)
-    ∙ ap {B = List ℕ} (λ l. front ++ l) c.write-record.ensures
+    ∙ ap {B = List ℕ} (λ l. front ++ l) c.write_record.ensures
     ∙ sym (joined_map_step record_bytes (row_of S) states s none (omega arith))
 
 pub returns : goal.returns

@@ -17,8 +17,8 @@ put_together t mark records certificate states a b c d =
 pub returns : goal.returns
 returns c =
     let t : Trailer = c.args.self.now in
-    put_together t c.copy-from-slice.new.self c.copy-from-slice-2.new.self c.copy-from-slice-3.new.self c.copy-from-slice-4.new.self
-    c.copy-from-slice.ensures.after
-    (c.copy-from-slice-2.ensures.after ∙ c.to-le-bytes.ensures ∙ four_bytes t.to_records)
-    (c.copy-from-slice-3.ensures.after ∙ c.to-le-bytes-2.ensures ∙ four_bytes t.to_certificate)
-    (c.copy-from-slice-4.ensures.after ∙ c.to-le-bytes-3.ensures)
+    put_together t c.copy_from_slice.new.self c.copy_from_slice-2.new.self c.copy_from_slice-3.new.self c.copy_from_slice-4.new.self
+    c.copy_from_slice.ensures.after
+    (c.copy_from_slice-2.ensures.after ∙ c.to_le_bytes.ensures ∙ four_bytes t.to_records)
+    (c.copy_from_slice-3.ensures.after ∙ c.to_le_bytes-2.ensures ∙ four_bytes t.to_certificate)
+    (c.copy_from_slice-4.ensures.after ∙ c.to_le_bytes-3.ensures)
