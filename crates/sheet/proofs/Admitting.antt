@@ -1,6 +1,6 @@
 -- When a rule may be added. Assumes nothing.
-use Rattle.std.proofs.Common.{◌≡◌, ℕ, ◌+◌, ◌<◌, ◌≤◌, Bool, true, false, ◌&&◌, eqb, ltb, leb, ◌⊎◌, List, [], ◌∷◌, ◌++◌, length, Ok, Err, vec_items, Result, sym, refl, ap, ◌∙◌, subst, inl, inr, arith}
-use Rattle.std.proofs.lemmas.Bool.{false≢true, ne_eqb, eq-eqb, eqb-true, and_left, and_right, and_from, and_parts, lt-ltb, le-ltb, le-leb, lt-leb, ltb-true, leb-true}
+use Rattle.std.proofs.Common.{◌≡◌, ℕ, ◌+◌, ◌<◌, ◌≤◌, Bool, true, false, ◌&&◌, eqb, ltb, leb, ◌⊎◌, List, [], ◌∷◌, ◌++◌, length, Ok, Err, vec_items, Result, sym, refl, ap, ◌∙◌, inl, inr, arith}
+use Rattle.std.proofs.lemmas.Bool.{false≢true, eq-eqb, and_left, and_right, and_from, and_parts, lt-ltb, le-ltb, le-leb, lt-leb, ltb-true, leb-true}
 use Rattle.model.specs.declared.refusal.Refusal.{Refusal}
 use Rattle.model.specs.declared.refusal.Refusal.TheVariants.{UnlikeRule, NameTaken, NoRoom}
 use Rattle.model.specs.Automaton.{Automaton}
@@ -12,7 +12,7 @@ use Rattle.ruletext.specs.View.{name_of, is_blank}
 use Rattle.synthesis.specs.Tables.{automaton}
 use Rattle.sheet.specs.declared.page.Page.{Page}
 use Rattle.sheet.specs.Shows.{Shows}
-use Rattle.sheet.specs.Added.{meaning, has_that_name, states_of, admission}
+use Rattle.sheet.specs.Added.{has_that_name, states_of, admission}
 use Rattle.sheet.proofs.Paging.{rules_agree, same_any, same_length}
 
 -- the three tests

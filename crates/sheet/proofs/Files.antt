@@ -1,6 +1,5 @@
 -- Write and check on a page, as on the sheet that it stands for. Assumes nothing.
-use Rattle.std.proofs.Common.{◌≡◌, ℕ, ◌-◌, ◌≤◌, Bool, true, false, cond, leb, List, map, length, take, Some, Ok, Err, vec_items, Option as Optional, Result, sym, refl, ap, ◌∙◌, subst, arith}
-use mathlib.Core.Option.{some}
+use Rattle.std.proofs.Common.{◌≡◌, ℕ, ◌-◌, Bool, true, false, cond, leb, List, map, length, take, Some, Ok, Err, vec_items, Option as Optional, Result, sym, refl, ap, ◌∙◌, subst, arith}
 use Rattle.model.specs.declared.refusal.Refusal.{Refusal}
 use Rattle.model.specs.declared.refusal.Refusal.TheVariants.{ShortBuffer}
 use Rattle.model.specs.Automaton.{Automaton, Row}
@@ -22,10 +21,10 @@ use Rattle.sheet.specs.Shows.{Shows, Keeps, written}
 use Rattle.sheet.proofs.Paging.{rules_agree}
 
 -- what write says and leaves, by whether the file fits
-pub fits_or_not : (s : Sheet) (F buffer left : List ℕ) (r : Result ℕ Refusal) → r ≡ Put.written F buffer → left ≡ Put.left F buffer
+pub fits_or_not : (F buffer left : List ℕ) (r : Result ℕ Refusal) → r ≡ Put.written F buffer → left ≡ Put.left F buffer
     → (written r left ≡ elim (leb (length F) (length buffer)) [ false ↦ refused ShortBuffer | true ↦ wrote (length F) (overwritten F buffer) ])
     × ((e : Refusal) → r ≡ Err e → left ≡ buffer)
-fits_or_not s F buffer left r er el = go (leb (length F) (length buffer)) er el
+fits_or_not F buffer left r er el = go (leb (length F) (length buffer)) er el
   where
     go : (b : Bool) → r ≡ cond b (Ok (length F)) (Err ShortBuffer) → left ≡ cond b (overwritten F buffer) buffer
         → (written r left ≡ elim b [ false ↦ refused ShortBuffer | true ↦ wrote (length F) (overwritten F buffer) ])
@@ -73,7 +72,7 @@ module _ (p : Page) (s : Sheet) (shows : Shows p s) (A : Automaton) (agrees : Ag
       let F : Optional Stored → Type 0 = λ o. Keeps s o (vec_items p.workspace.states) in
       let (f, is, st) = subst F e shows.stored in
       let same = file_as f k (vec_items p.workspace.states) st in
-      let said = (fits_or_not s (file_of s f) buffer left r (er ∙ ap {B = Result ℕ Refusal} (λ v. Put.written v buffer) same) (el ∙ ap {B = List ℕ} (λ v. Put.left v buffer) same)).0 in
+      let said = (fits_or_not (file_of s f) buffer left r (er ∙ ap {B = Result ℕ Refusal} (λ v. Put.written v buffer) same) (el ∙ ap {B = List ℕ} (λ v. Put.left v buffer) same)).0 in
       let out = ap {B = Outcome} (write_with s buffer) is in
       let b = leb (length (file_of s f)) (length buffer) in (
         said ∙ answer_of s (file_of s f) buffer b ∙ sym (ap {B = Answer} (λ (o : Outcome). o.answer) out),

@@ -1,13 +1,13 @@
 -- The controller that is kept, and solve and frame on it. Assumes nothing.
-use Rattle.std.proofs.Common.{◌≡◌, ℕ, ◌-◌, ◌<◌, ◌≤◌, Bool, true, false, ltb, List, map, length, get_or, take, Some, None, vec_items, Option as Optional, sym, refl, ap, ◌∙◌, subst, arith}
-use mathlib.Core.Option.{Option, none, some}
+use Rattle.std.proofs.Common.{◌≡◌, ℕ, ◌-◌, ◌<◌, true, false, ltb, List, map, get_or, take, Some, vec_items, Option as Optional, sym, ap, ◌∙◌, subst, arith}
+use mathlib.Core.Option.{some}
 use Rattle.std.proofs.lemmas.Bool.{lt-ltb}
 use Rattle.model.specs.declared.refusal.Refusal.TheVariants.{NoSituation}
 use Rattle.model.specs.Automaton.{Automaton, Row, no_row}
 use Rattle.model.specs.Rules.{together}
 use Rattle.model.specs.Positions.{Found, Solution}
 use Rattle.model.specs.Positions as Positions
-use Rattle.model.specs.Sheet.{Sheet, Stored as Holding, rules, row_in, with_stored, solve_with, solve_on, frame_with, frame_on, moved, Outcome, answers, count, command, refused}
+use Rattle.model.specs.Sheet.{Sheet, Stored as Holding, rules, row_in, with_stored, solve_with, solve_on, frame_with, frame_on, moved, Outcome, answers, command, refused}
 use Rattle.synthesis.specs.declared.state.State.{State}
 use Rattle.synthesis.specs.declared.solved.Found.{Found as Size}
 use Rattle.synthesis.specs.Tables.{automaton, Agrees}

@@ -1,9 +1,8 @@
 -- When two names are the same. Assumes nothing.
-use Rattle.std.proofs.Common.{◌≡◌, ℕ, ◌<◌, Bool, true, false, List, map, length, get_or, sym, refl, ap, ◌∙◌, arith, ext_get_or}
+use Rattle.std.proofs.Common.{◌≡◌, ℕ, ◌<◌, true, false, List, map, length, get_or, sym, ap, ◌∙◌, arith, ext_get_or}
 use Rattle.std.proofs.lemmas.List.{length-map, get_or-map}
 use Rattle.std.proofs.lemmas.Bool.{false≢true}
 use Rattle.model.specs.Sheet.{small, same_name}
-use Rattle.model.specs.Positions.{same}
 use Rattle.model.proofs.Lists.{decides_same}
 use Rattle.synthesis.proofs.Deciding.{same_bool}
 

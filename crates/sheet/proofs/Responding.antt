@@ -8,10 +8,9 @@ use Rattle.sheet.specs.declared.request.Request.TheVariants.{Add}
 use Rattle.sheet.specs.declared.request.Answer.{Answer as Said}
 use Rattle.sheet.specs.Requests.{held, TextAdded, Called}
 use Rattle.model.specs.declared.refusal.Refusal.{Refusal}
-use Rattle.model.specs.Sheet.{Sheet, looked, Call, add, withdraw, limit, solve, frame, write, check, Answer, refused, Outcome, answers, on_good_sheet, respond}
+use Rattle.model.specs.Sheet.{Sheet, looked, Call, add, withdraw, limit, solve, frame, write, check, Answer, refused, Outcome, on_good_sheet, respond}
 use Rattle.model.specs.SheetLaws.{Does as Lays, add_blank, add_unlike, add_taken, add_full, adds, withdraw_unknown, withdraws, limit_over, limits, finds, finds_none, crowds, frame_none, frame_large, moves, write_none, write_short, writes, checks}
 use Rattle.model.proofs.Calls.{respond_is, refused_is, does}
-use Rattle.sheet.specs.declared.page.Page.{Page}
 use Rattle.sheet.specs.declared.sheet.Sheet.{Sheet as Kept}
 use Rattle.sheet.specs.Shows.{Shows, Does, Stands, Responds, passing}
 

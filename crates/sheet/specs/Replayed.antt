@@ -2,7 +2,7 @@
 use Rattle.std.specs.Prelude.{◌≡◌, ℕ, List, ◌++◌}
 use Rattle.std.proofs.Math.Option.{none}
 use Rattle.model.specs.Automaton.{Automaton}
-use Rattle.model.specs.Sheet.{Sheet, look, opened, Call, replies}
+use Rattle.model.specs.Sheet.{look, opened, Call, replies}
 use Rattle.model.specs.History.{Lawful}
 use Rattle.sheet.specs.declared.request.Request.{Request}
 use Rattle.sheet.specs.declared.request.Answer.{Answer}

@@ -13,7 +13,6 @@ use crate::page::Page;
 use model::refusal::Refusal;
 use rules::Rule;
 use ruletext::ReadRule;
-use synthesis::table::RuleTableRule;
 
 /// Takes out the rules of the name, and closes the gap.
 fn remove_named(rules: &mut Vec<ReadRule>, name: &[u8])

@@ -12,7 +12,7 @@ use crate::page::Page;
 use ctlfile::checking::check;
 use ctlfile::writing::write;
 use model::refusal::Refusal;
-use synthesis::table::{RuleTable, RuleTableRule};
+use synthesis::table::RuleTable;
 
 impl Page {
     /// The rules on the page as one.

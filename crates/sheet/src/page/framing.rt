@@ -11,7 +11,6 @@ use crate::stored::Stored;
 use model::refusal::Refusal;
 use rules::Rule;
 use synthesis::state::State;
-use synthesis::table::RuleTableRule;
 
 /// The command of a state; 0 if there is no such state.
 pub fn command_at(states: &[State], state: usize) -> u8

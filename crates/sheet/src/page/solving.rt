@@ -9,7 +9,6 @@ use crate::stored::{Solution, Stored};
 use model::refusal::Refusal;
 use synthesis::solved::Solved;
 use synthesis::solving::solve;
-use synthesis::table::RuleTableRule;
 
 impl Page {
     /// Discards the stored controller, and stores one of the least count, in its state 0.

@@ -1,4 +1,4 @@
-use Rattle.std.proofs.Common.{◌≡◌, length, get_or, sym, ◌∙◌, arith, below_more}
+use Rattle.std.proofs.Common.{◌≡◌, get_or, sym, ◌∙◌, arith, below_more}
 use Rattle.model.specs.Sheet.{small}
 use Rattle.sheet.proofs.Naming.{longer, differs, alike}
 use Rattle.sheet.proofs.names.same_name.Goals as goal

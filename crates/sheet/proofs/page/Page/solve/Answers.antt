@@ -1,7 +1,7 @@
-use Rattle.std.proofs.Common.{◌≡◌, ℕ, ◌-◌, ◌<◌, ◌≤◌, List, map, length, get_or, take, vec_items, sym, refl, ap, ◌∙◌, subst, arith}
+use Rattle.std.proofs.Common.{◌≡◌, ℕ, ◌-◌, ◌≤◌, List, map, length, get_or, take, vec_items, sym, refl, ap, ◌∙◌, subst, arith}
 use mathlib.Core.Option.{some}
 use Rattle.std.specs.List.{AllByRecursion as All}
-use Rattle.model.specs.Automaton.{Automaton, Row, no_row}
+use Rattle.model.specs.Automaton.{no_row}
 use Rattle.model.specs.Rules.{together}
 use Rattle.model.specs.Positions.{Found, Solution, found, none_found, too_crowded}
 use Rattle.model.specs.Positions as Positions
@@ -12,13 +12,13 @@ use Rattle.synthesis.specs.Tables.{automaton, Alike}
 use Rattle.synthesis.specs.Answers.{Stores, row_of}
 use Rattle.sheet.specs.Added.{meaning}
 use Rattle.sheet.proofs.Paging.{outcome, all_alike, rules_agree}
-use Rattle.sheet.proofs.Keeping.{stores_alike, solved_as, rules_situations}
+use Rattle.sheet.proofs.Keeping.{stores_alike, solved_as}
 use Rattle.sheet.proofs.page.Page.solve.Goals as goal
 
 pub solve-requires : goal.solve-requires
 solve-requires c =
     let H = automaton c.args.self.now.table.arrows in
-    let v = sym c.as-slice.ensures.value in
+    let v = sym c.as_slice.ensures.value in
     record {
       alike = subst (λ (w : List ReadRule). All (Alike H) (map meaning w)) v (all_alike H (vec_items c.args.self.now.added) c.args.self.now.alike);
       room = subst (λ (w : List ReadRule). (together H (map meaning w)).states ≤ 16) v c.args.self.now.few_states;
@@ -30,7 +30,7 @@ pub returns-in-Found : goal.returns-in-Found
 returns-in-Found c s shows =
     let p = c.args.self.now in
     let H = automaton p.table.arrows in
-    let v = c.as-slice.ensures.value in
+    let v = c.as_slice.ensures.value in
     let size = c.in-Found.found in
     let states = vec_items c.solve.new.workspace.states in
     let (f, e, st) = c.in-Found.ensures in
@@ -38,7 +38,7 @@ returns-in-Found c s shows =
     let st' = stores_alike _ (rules s) f size states (rules_agree p s shows) (subst (λ (w : List ReadRule). Stores (together H (map meaning w)) f size states) v st) in
     let S = (rules s).situations in
     let gives : c.command_at.result ≡ (row_in f 0).command =
-    c.command_at.ensures S ∙ ap {B = ℕ} (λ (w : List State). (get_or (map (row_of S) (take (size.states - 0) w)) 0 no_row).command) c.as-slice-in-Found.ensures.value
+    c.command_at.ensures S ∙ ap {B = ℕ} (λ (w : List State). (get_or (map (row_of S) (take (size.states - 0) w)) 0 no_row).command) c.as_slice-in-Found.ensures.value
     ∙ ap {B = ℕ} (λ n. (get_or (map (row_of S) (take n states)) 0 no_row).command) (let z : size.states - 0 ≡ size.states = omega arith in z)
     ∙ ap {B = ℕ} (λ r. (get_or r 0 no_row).command) st'.rows in
     let is = solved_as p s shows (found f) e'
@@ -59,13 +59,13 @@ returns-in-Found c s shows =
 pub returns-in-NoneFound : goal.returns-in-NoneFound
 returns-in-NoneFound c s shows =
     let p = c.args.self.now in
-    let e = subst (λ (w : List ReadRule). Positions.solve (together (automaton p.table.arrows) (map meaning w)) p.capacity p.limit ≡ none_found) c.as-slice.ensures.value c.in-NoneFound.ensures in
+    let e = subst (λ (w : List ReadRule). Positions.solve (together (automaton p.table.arrows) (map meaning w)) p.capacity p.limit ≡ none_found) c.as_slice.ensures.value c.in-NoneFound.ensures in
     outcome _ _ _ _ (solved_as p s shows none_found e)
     (record { house = shows.house; situations = shows.situations; commands = shows.commands; capacity = shows.capacity; added = shows.added; limit = shows.limit; stored = refl })
 
 pub returns-in-Crowded : goal.returns-in-Crowded
 returns-in-Crowded c s shows =
     let p = c.args.self.now in
-    let e = subst (λ (w : List ReadRule). Positions.solve (together (automaton p.table.arrows) (map meaning w)) p.capacity p.limit ≡ too_crowded) c.as-slice.ensures.value c.in-Crowded.ensures in
+    let e = subst (λ (w : List ReadRule). Positions.solve (together (automaton p.table.arrows) (map meaning w)) p.capacity p.limit ≡ too_crowded) c.as_slice.ensures.value c.in-Crowded.ensures in
     outcome _ _ _ _ (solved_as p s shows too_crowded e)
     (record { house = shows.house; situations = shows.situations; commands = shows.commands; capacity = shows.capacity; added = shows.added; limit = shows.limit; stored = refl })

@@ -1,4 +1,4 @@
-use Rattle.std.proofs.Common.{◌≡◌, ℕ, ◌+◌, ◌<◌, ◌≤◌, length, get_or, take, vec_items, sym, ap, ◌∙◌, subst, arith}
+use Rattle.std.proofs.Common.{◌≡◌, ℕ, ◌+◌, ◌<◌, ◌≤◌, length, get_or, take, vec_items, ap, ◌∙◌, subst, arith}
 use Rattle.std.proofs.lemmas.List.{take_all}
 use Rattle.synthesis.specs.Tables.{automaton}
 use Rattle.sheet.specs.Added.{states_of}
@@ -18,8 +18,8 @@ more c =
     let s = states_more (automaton c.args.self.now.table.arrows) (vec_items c.args.self.now.added) i x lt is in
     omega (arith, s, c.loop-rule.invariant, c.states-states-in-loop-rule.ensures.value)
 
-pub overflow-add-states : goal.overflow-add-states
-overflow-add-states c =
+pub overflow_add-states : goal.overflow_add-states
+overflow_add-states c =
     omega (arith, more c, states_front (automaton c.args.self.now.table.arrows) (vec_items c.args.self.now.added) (c.loop-rule.rule-index + 1), c.args.self.now.few_states)
 
 pub loop-rule-preserved : goal.loop-rule-preserved

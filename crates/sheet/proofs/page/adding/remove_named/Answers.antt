@@ -1,4 +1,4 @@
-use Rattle.std.proofs.Common.{◌≡◌, ℕ, ◌+◌, ◌-◌, ◌<◌, ◌≤◌, Bool, true, false, not, get_or, vec_items, vec_len, vec_capacity, sym, refl, ap, ◌∙◌, subst, arith}
+use Rattle.std.proofs.Common.{◌≡◌, ◌+◌, ◌-◌, Bool, true, false, not, vec_items, sym, refl, ap, ◌∙◌, arith}
 use Rattle.model.specs.Sheet.{same_name}
 use Rattle.ruletext.specs.declared.rule.ReadRule.{ReadRule}
 use Rattle.sheet.specs.Added.{has_that_name}
@@ -18,8 +18,8 @@ remove-rule-requires c =
     let r = removed_lt _ _ (vec_items c.loop-i.rules) c.loop-i.i (c.loop-i.i - 1) c.loop-i.invariant.0 (omega arith) in
     omega (arith, r, c.loop-i.rules.ok.0)
 
-pub loop-i-preserved-then-same-name : goal.loop-i-preserved-then-same-name
-loop-i-preserved-then-same-name c =
+pub loop-i-preserved-then-same_name : goal.loop-i-preserved-then-same_name
+loop-i-preserved-then-same_name c =
     let p : ReadRule → Bool = λ r. not (has_that_name c.args.name.now r) in
     let j = c.loop-i.i - 1 in
     let x = c.index.result.now in
@@ -27,7 +27,7 @@ loop-i-preserved-then-same-name c =
     let ys = vec_items c.loop-i.rules in
     let next : c.loop-i.i ≡ j + 1 = omega arith in
     let at = removed_at p xs ys c.loop-i.i j c.loop-i.invariant.0 next x c.index.ensures in
-    let named : has_that_name c.args.name.now x ≡ true = ap {B = Bool} (same_name c.args.name.now) (sym c.name.ensures) ∙ sym c.same-name.ensures ∙ c.if-same-name.true in (
+    let named : has_that_name c.args.name.now x ≡ true = ap {B = Bool} (same_name c.args.name.now) (sym c.name.ensures) ∙ sym c.same_name.ensures ∙ c.if-same_name.true in (
       removed_yes p xs ys c.loop-i.i j c.loop-i.invariant.0 next x (vec_items c.remove-rule.new.self) at (ap {B = Bool} not named) c.remove-rule.ensures.by_index.2,
       c.remove-rule.ensures.capacity ∙ c.loop-i.invariant.1,
     )
@@ -41,7 +41,7 @@ loop-i-preserved c =
     let ys = vec_items c.loop-i.rules in
     let next : c.loop-i.i ≡ j + 1 = omega arith in
     let at = removed_at p xs ys c.loop-i.i j c.loop-i.invariant.0 next x c.index.ensures in
-    let named : has_that_name c.args.name.now x ≡ false = ap {B = Bool} (same_name c.args.name.now) (sym c.name.ensures) ∙ sym c.same-name.ensures ∙ c.if-same-name.false in (
+    let named : has_that_name c.args.name.now x ≡ false = ap {B = Bool} (same_name c.args.name.now) (sym c.name.ensures) ∙ sym c.same_name.ensures ∙ c.if-same_name.false in (
       removed_no p xs ys c.loop-i.i j c.loop-i.invariant.0 next x at (ap {B = Bool} not named),
       c.loop-i.invariant.1,
     )

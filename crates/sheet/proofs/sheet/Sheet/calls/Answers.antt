@@ -1,8 +1,7 @@
-use Rattle.std.proofs.Common.{◌≡◌, ℕ, ◌+◌, ◌-◌, ◌<◌, ◌≤◌, min, List, [], ◌∷◌, ◌++◌, length, get_or, take, drop, sym, refl, ap, ◌∙◌, subst, arith}
+use Rattle.std.proofs.Common.{◌≡◌, ℕ, ◌-◌, ◌<◌, ◌≤◌, min, length, take, ap, ◌∙◌, subst, arith}
 use Rattle.std.proofs.lemmas.List.{length-take, drop-set-lt}
-use Rattle.sheet.specs.declared.request.Answer.{Answer}
 use Rattle.sheet.specs.Requests.{Ran}
-use Rattle.sheet.proofs.Going.{Going, going_turn, going_all, drop_cut}
+use Rattle.sheet.proofs.Going.{going_turn, going_all, drop_cut}
 use Rattle.sheet.proofs.sheet.Sheet.calls.Goals as goal
 
 pub loop-i-preserved : goal.loop-i-preserved

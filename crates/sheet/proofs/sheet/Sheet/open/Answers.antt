@@ -1,4 +1,4 @@
-use Rattle.std.proofs.Common.{◌≡◌, ℕ, sym, refl, ◌∙◌, subst, arith}
+use Rattle.std.proofs.Common.{sym, refl, ◌∙◌, subst}
 use Rattle.model.specs.Sheet.{opened}
 use Rattle.model.proofs.Calls.{look_exact}
 use Rattle.sheet.specs.Shows.{Shows}

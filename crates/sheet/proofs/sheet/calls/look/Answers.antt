@@ -1,4 +1,4 @@
-use Rattle.std.proofs.Common.{◌≡◌, Result, sym, refl, ap, ◌∙◌, arith}
+use Rattle.std.proofs.Common.{Result, sym, ap, ◌∙◌, arith}
 use Rattle.model.specs.declared.refusal.Refusal.{Refusal}
 use Rattle.model.proofs.Calls.{look_exact}
 use Rattle.sheet.specs.Shows.{passing}
