@@ -82,6 +82,16 @@ def turn(path, text, names):
     return TOKEN.sub(lambda m: names.get(m.group(0), m.group(0)), text)
 
 
+WORDS = {"get_or": "slice_index_or", "ltb": "nat_lt", "leb": "nat_le", "eqb": "nat_eq"}  # as clauses and specs/ write them
+
+
+def reworded(text):
+    """The words that the kit's script left in the older form, with each name imported once."""
+    text = TOKEN.sub(lambda m: WORDS.get(m.group(0), m.group(0)), text)
+    once = lambda m: m.group(1) + ", ".join(dict.fromkeys(m.group(2).split(", "))) + "}"
+    return re.sub(r"^((?:ghost )?use [^\s{]+\.\{)(.*)\}", once, text, flags=re.M)
+
+
 def main():
     names, taken, twice = turns()
     if taken + twice:
@@ -93,6 +103,13 @@ def main():
         if new != old:
             with open(path, "w", encoding="utf-8") as f:
                 f.write(new)
+    for path in files(".antt", ".rt"):
+        if "/specs/" in path or "/src/" in path:
+            old = read(path)
+            new = reworded(old)
+            if new != old:
+                with open(path, "w", encoding="utf-8") as f:
+                    f.write(new)
     print(len(names), "names turned")
 
 

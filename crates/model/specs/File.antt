@@ -1,5 +1,5 @@
 -- The controller file: what write puts down, and what check makes of any bytes.
-use Rattle.std.specs.Prelude.{ℕ, zero, suc, ◌+◌, ◌-◌, ◌*◌, ◌/◌, ◌%◌, Bool, true, false, ◌&&◌, ltb, List, [], ◌∷◌, ◌++◌, map, length, get_or, take, drop, Ok as accepts, Err as refuses, Result, ◌==◌, nat_le, nat_lt, slice_index, slice_index_or}
+use Rattle.std.specs.Prelude.{ℕ, zero, suc, ◌+◌, ◌-◌, ◌*◌, ◌/◌, ◌%◌, Bool, true, false, ◌&&◌, nat_lt, List, [], ◌∷◌, ◌++◌, map, length, slice_index_or, take, drop, Ok as accepts, Err as refuses, Result, ◌==◌, nat_le, slice_index}
 use Rattle.std.proofs.Math.Option.{Option, none, some}
 use Rattle.std.specs.List.{range_with_len}
 use Rattle.model.specs.declared.refusal.Place.{Place}
@@ -80,7 +80,7 @@ abbrev pub piece : ℕ → ℕ → List ℕ → List ℕ
 piece from size bytes = take size (drop from bytes)
 
 abbrev pub good_row : Automaton → ℕ → Row → Bool
-good_row A m r = nat_lt r.command A.commands && every (λ s. ltb s m) r.nexts
+good_row A m r = nat_lt r.command A.commands && every (λ s. nat_lt s m) r.nexts
 
 -- the mark of a rule state in a state
 abbrev pub mark_in : Window → ℕ → ℕ → ℕ
@@ -100,7 +100,7 @@ bad_arrow A w at =
     let s = at.state in
     let q = at.rule_state in
     let p = at.follower in
-    let r = get_or w.rows s no_row in
+    let r = slice_index_or w.rows s no_row in
     let m = mark_in w s q in
     elim (nat_lt 0 m) [
       | true ↦
@@ -152,7 +152,7 @@ check A bytes =
     let at = length bytes - 20 in
     let end = drop at bytes in
     let m = number_of (piece 12 2 end) in
-    let c = get_or end 17 0 in
+    let c = slice_index_or end 17 0 in
     let records = records_size A.situations m in
     let cert = certificate_size A.states m in
     elim (nat_le 20 (length bytes) && (same (take 4 end) file_mark && (same (drop 18 end) (0 ∷ 0 ∷ []) && (nat_le 1 m && (nat_le m 1024 && nat_le c 14))))) [

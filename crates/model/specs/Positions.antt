@@ -1,5 +1,5 @@
 -- Positions, steps, Reach(c), the largest safe set, and the controller that is found there.
-use Rattle.std.specs.Prelude.{◌≡◌, ℕ, zero, suc, ◌+◌, ◌<◌, ◌≤◌, max, Bool, true, false, cond, ◌&&◌, ◌⊎◌, List, [], ◌∷◌, map, length, get_or, ◌==◌, nat_le, nat_lt, slice_index, slice_index_or}
+use Rattle.std.specs.Prelude.{◌≡◌, ℕ, zero, suc, ◌+◌, ◌<◌, ◌≤◌, max, Bool, true, false, cond, ◌&&◌, ◌⊎◌, List, [], ◌∷◌, map, length, slice_index_or, ◌==◌, nat_le, nat_lt, slice_index}
 use Rattle.std.proofs.Math.Option.{Option, none, some}
 use Rattle.std.specs.List.{range_with_len, filter}
 use Rattle.model.specs.Automaton.{Automaton, weight, Controller, Row}
@@ -149,7 +149,7 @@ NumberedAsMet S K =
 pub record Described (A : Automaton) (c : ℕ) (K : Controller) (positions : List Position) : Type 0 where
   pub long : length positions ≡ K.size
   pub once : Distinct positions
-  pub first : get_or positions 0 [] ≡ start_position A
+  pub first : slice_index_or positions 0 [] ≡ start_position A
   pub safe : (P : Position) → In positions P → InSafe A c P
   pub stays : (s : ℕ) → s < K.size → Stays A c (K.command s) (slice_index_or positions s [])
   pub lowest_stays : (s u : ℕ) → s < K.size → u < K.command s → Stays A c u (slice_index_or positions s []) → ⊥

@@ -19,6 +19,7 @@ use script::parse;
 use script::parse::{Command, Fault, Setup, Text};
 use std::alloc::{AllocError, Global};
 use std::io::{BufWriter, Read, Write};
+use std::process::ExitCode;
 use std::{env, fs, io};
 use synthesis::solved::{Found, Solved};
 use synthesis::solving::solve;
@@ -248,10 +249,11 @@ fn read_script(rt: &HostRuntime) -> io::Result<Vec<u8>> {
     Ok(script)
 }
 
-fn main(rt: HostRuntime) -> io::Result<()> {
-    match read_script(&rt) {
+// Reads the script and answers it.
+fn run(rt: &HostRuntime) -> io::Result<()> {
+    match read_script(rt) {
         Ok(script) => answer_all(
-            &rt,
+            rt,
             &mut BufWriter::new(rt.alloc(), rt.stdout())?,
             rt.alloc(),
             &script,
@@ -260,5 +262,13 @@ fn main(rt: HostRuntime) -> io::Result<()> {
             eprintln!(rt; "ragtimuwen: the script cannot be read: {error}")?;
             Err(error)
         }
+    }
+}
+
+fn main(rt: HostRuntime) -> ExitCode {
+    match run(&rt) {
+        Ok(()) => ExitCode::SUCCESS,
+        // What can be told has been told.
+        Err(_error) => ExitCode::FAILURE,
     }
 }

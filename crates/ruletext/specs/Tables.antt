@@ -1,5 +1,5 @@
 -- The tables of a rule, and the automaton that they state.
-use Rattle.std.specs.Prelude.{◌≡◌, ℕ, ◌+◌, ◌*◌, ◌<◌, Bool, true, false, cond, ◌&&◌, ◌||◌, List, get_or, Some, None, Option, ◌==◌, nat_eq, nat_lt, slice_index_or}
+use Rattle.std.specs.Prelude.{◌≡◌, ℕ, ◌+◌, ◌*◌, ◌<◌, Bool, true, false, cond, ◌&&◌, ◌||◌, List, slice_index_or, Some, None, Option, ◌==◌, nat_eq, nat_lt}
 use Rattle.std.specs.List.{range_with_len}
 use Rattle.model.specs.Automaton.{Automaton}
 use Rattle.model.specs.Lists.{any}
@@ -53,7 +53,7 @@ Led arrows q p = (u : ℕ) × (x : ℕ) × (u < 8) × (x < 8) × (slice_index_or
 
 -- the same as a test
 unfoldable pub led : List Bool → ℕ → ℕ → Bool
-led arrows q p = any (λ u. any (λ x. get_or arrows (place q u x p) false) (range_with_len 0 8)) (range_with_len 0 8)
+led arrows q p = any (λ u. any (λ x. slice_index_or arrows (place q u x p) false) (range_with_len 0 8)) (range_with_len 0 8)
 
 -- the states as a graph: the successor p of a state is there if it follows it
 abbrev pub follower : List Bool → ℕ → ℕ → Option ℕ

@@ -65,7 +65,7 @@ module _ (A : Automaton) (c : ℕ) (L : List Position) (links : List ℕ) (table
   abbrev pub go_on : ℕ → ℕ → Option ℕ
   go_on = onward A.commands A.situations links flags
 
-  -- the command that is lowest_kept
+  -- the command that is lowest-kept
   pub record Pick (h : ℕ) : Type 0 where
     pub command : ℕ
     pub is_lowest : lowest_kept A.commands A.situations links flags h ≡ Some command
@@ -95,7 +95,7 @@ module _ (A : Automaton) (c : ℕ) (L : List Position) (links : List ℕ) (table
             is_model = choice_is A c L links table few low R within flags long is h u hl ku k (λ v l m. false≢true (sym (t.3 v zero-le l) ∙ holding_under A.situations links flags h v m));
           }
 
-  -- the places that the lowest_kept command leads to
+  -- the places that the lowest-kept command leads to
   around_at : (h : ℕ) (g : Good h) → neighbours 8 go_on h ≡ map (link links h (pick_at h g).command) (range_with_len 0 A.situations)
   around_at h g =
       let p = pick_at h g in

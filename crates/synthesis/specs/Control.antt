@@ -1,5 +1,5 @@
 -- The controller that the lowest commands make, in a table of links.
-use Rattle.std.specs.Prelude.{◌≡◌, ℕ, ◌+◌, ◌*◌, ◌<◌, ◌≤◌, Bool, true, cond, ◌&&◌, List, [], map, length, get_or, take, Some, None, Option, nat_lt, slice_index, slice_index_or}
+use Rattle.std.specs.Prelude.{◌≡◌, ℕ, ◌+◌, ◌*◌, ◌<◌, ◌≤◌, Bool, true, cond, ◌&&◌, List, [], map, length, slice_index_or, take, Some, None, Option, nat_lt, slice_index}
 use Rattle.std.specs.List.{range_with_len}
 use Rattle.model.specs.Automaton.{Automaton}
 use Rattle.model.specs.Positions.{states_met, safe_part, row_at}
@@ -18,7 +18,7 @@ onward C S links flags h x = cond (nat_lt h (length flags) && nat_lt x S) (led (
 
 -- the positions at some places
 abbrev pub standing : Automaton → ℕ → List Position → List ℕ → List (List ℕ)
-standing A len slots places = map (λ h. get_or (shown A len slots) h []) places
+standing A len slots places = map (λ h. slice_index_or (shown A len slots) h []) places
 
 -- the first n places are those of the controller's states, the next states are those of its rows, and each place is flagged
 pub record Controlled (A : Automaton) (slots : List Position) (len : ℕ) (flags : List Bool) (n : ℕ) (places nexts : List ℕ) : Type 0 where

@@ -1,5 +1,5 @@
 -- What the tables stand for.
-use Rattle.std.specs.Prelude.{◌≡◌, ℕ, ◌+◌, ◌-◌, ◌<◌, ◌≤◌, false, cond, List, [], ◌++◌, length, get_or, take, replicate, Some, None, Option, slice_index_or}
+use Rattle.std.specs.Prelude.{◌≡◌, ℕ, ◌+◌, ◌-◌, ◌<◌, ◌≤◌, false, cond, List, [], ◌++◌, length, slice_index_or, take, replicate, Some, None, Option}
 use Rattle.model.specs.Automaton.{Automaton}
 use Rattle.model.specs.Positions.{mark, step, fits, solve}
 use Rattle.synthesis.specs.declared.arrows.Arrows.{Arrows}
@@ -27,7 +27,7 @@ automaton a =
       states = a.states;
       start = λ q. slice_index_or a.starts q false;
       reject = λ q. slice_index_or a.rejects q false;
-      follows = λ q u x p. slice_index_or (get_or (get_or (get_or a.replies u no_replies).moves x no_moves).into p no_sources).states q false;
+      follows = λ q u x p. slice_index_or (slice_index_or (slice_index_or (slice_index_or a.replies u no_replies).moves x no_moves).into p no_sources).states q false;
     }
 
 -- the position, of so many rule states
