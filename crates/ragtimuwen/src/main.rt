@@ -268,7 +268,7 @@ fn run(rt: &HostRuntime) -> io::Result<()> {
 fn main(rt: HostRuntime) -> ExitCode {
     match run(&rt) {
         Ok(()) => ExitCode::SUCCESS,
-        // What can be told has been told.
+        // That the script cannot be read has been told; of a failed write the status tells.
         Err(_error) => ExitCode::FAILURE,
     }
 }
