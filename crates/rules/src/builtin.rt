@@ -1,45 +1,36 @@
 //! The built-in rules.
-ghost use Rattle.std.specs.Prelude.{◌≡◌, ◌≤◌};
-ghost use Rattle.model.specs.Rules.{free, nearest, reply};
+ghost use Rattle.std.specs.Prelude.{◌≡◌};
+ghost use Rattle.model.specs.Rules.{free, reply};
 
+use crate::numbers::Numbers;
 use crate::rule::Rule;
-
-// Of a number of situations or commands outside 1 to 8, the nearest inside.
-fn nearest_number(n: u8) -> u8
-    ensures { result ≡ nearest n }
-{
-    n.clamp(1, 8)
-}
 
 /// Free: one state, which starts, is not rejecting and always follows itself.
 #[derive(Clone, Copy, Debug, PartialEq, Eq)]
 pub struct Free {
-    situations: u8,
-    commands: u8,
-    ghost range: { (1 ≤ situations) × (situations ≤ 8) × (1 ≤ commands) × (commands ≤ 8) },
+    numbers: Numbers,
 }
 
 impl Free {
     /// Of numbers outside 1 to 8 the nearest inside is taken.
     pub fn new(situations: u8, commands: u8) -> Free
-        ensures { free result.situations result.commands ≡ free situations commands }
+        ensures { free result.numbers.situations result.numbers.commands ≡ free situations commands }
     {
         Free {
-            situations: nearest_number(situations),
-            commands: nearest_number(commands),
+            numbers: Numbers::nearest(situations, commands),
         }
     }
 }
 
 impl Rule for Free {
-    ghost meaning = { λ f. free f.situations f.commands };
+    ghost meaning = { λ f. free f.numbers.situations f.numbers.commands };
 
     fn situations(&self) -> u8 {
-        self.situations
+        self.numbers.situations
     }
 
     fn commands(&self) -> u8 {
-        self.commands
+        self.numbers.commands
     }
 
     fn states(&self) -> u8 {
@@ -63,22 +54,19 @@ impl Rule for Free {
 /// situation, and follows itself under every command but that one.
 #[derive(Clone, Copy, Debug, PartialEq, Eq)]
 pub struct Reply {
-    situations: u8,
-    commands: u8,
+    numbers: Numbers,
     situation: u8,
     command: u8,
-    ghost range: { (1 ≤ situations) × (situations ≤ 8) × (1 ≤ commands) × (commands ≤ 8) },
 }
 
 impl Reply {
     /// Of numbers of situations or commands outside 1 to 8 the nearest inside is taken; the situation and the command are taken as
     /// they are.
     pub fn new(situations: u8, commands: u8, situation: u8, command: u8) -> Reply
-        ensures { reply result.situations result.commands result.situation result.command ≡ reply situations commands situation command }
+        ensures { reply result.numbers.situations result.numbers.commands result.situation result.command ≡ reply situations commands situation command }
     {
         Reply {
-            situations: nearest_number(situations),
-            commands: nearest_number(commands),
+            numbers: Numbers::nearest(situations, commands),
             situation,
             command,
         }
@@ -86,14 +74,14 @@ impl Reply {
 }
 
 impl Rule for Reply {
-    ghost meaning = { λ f. reply f.situations f.commands f.situation f.command };
+    ghost meaning = { λ f. reply f.numbers.situations f.numbers.commands f.situation f.command };
 
     fn situations(&self) -> u8 {
-        self.situations
+        self.numbers.situations
     }
 
     fn commands(&self) -> u8 {
-        self.commands
+        self.numbers.commands
     }
 
     fn states(&self) -> u8 {

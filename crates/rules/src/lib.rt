@@ -4,9 +4,11 @@
 
 pub mod builtin;
 pub mod lists;
+pub mod numbers;
 pub mod pair;
 pub mod rule;
 
 pub use builtin::{Free, Reply};
+pub use numbers::Numbers;
 pub use pair::Pair;
 pub use rule::Rule;
