@@ -7,7 +7,8 @@ ghost use Rattle.model.specs.Refusals.{line_fault_number, fault_number, refusal_
 use crate::fault::*;
 use crate::refusal::*;
 
-/// A line of a text, from 1, and a byte of it, from 0.
+/// A line of a text, from 1, and a byte of it, from 0. A `WordFault` has the same two numbers, and is a fault: as one type they would
+/// say less.
 #[derive(Clone, Copy, Debug, PartialEq, Eq)]
 pub struct TextPlace {
     pub line: usize,
@@ -68,7 +69,7 @@ impl ReadFault {
 }
 
 impl Refusal {
-    /// The number of the refusal.
+    /// The number of the refusal. A method says so; `u8::from(refusal)` would not.
     pub fn number(&self) -> u8
         ensures { result ≡ refusal_number self.now }
     {

@@ -35,6 +35,7 @@ impl<X: Rule, Y: Rule> Rule for Pair<X, Y> {
         self.first.states().saturating_add(self.second.states())
     }
 
+    // Starts, rejects and follows ask the part that has the state each another question: one function with a closure is no plainer.
     fn starts(&self, state: u8) -> bool {
         let n = self.first.states();
         if state < n {
