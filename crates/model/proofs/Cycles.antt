@@ -87,9 +87,6 @@ module _ (A : Automaton) (K : Controller) where
         go (inl r) (inr z) = inr (rw r (fresh r (omega arith)))
 
   module _ (wf : WellFormed A K) where
-    none_met : total (λ _ _. 0) ≡ 0
-    none_met = omega (arith, sum_bound K.size (λ _. sum A.states (λ _. 0)) 0 (λ _ _. omega (arith, sum_bound A.states (λ _. 0) 0 (λ _ _. omega arith))))
-
     met : {s q t : ℕ} → Path A K s q t → RejectingCycle A K ⊎ Met s q t
     met (begin {q} b) =
         let r : RejectingCycle A K ⊎ Met 0 q (0 + weight A q) =

@@ -114,6 +114,3 @@ line_end_sound x i bytes y j rest e =
     let is-end = eqb-true 10 s p.passed in
     let r = part_same d₁ in
     (r.value, cc))
-
-pub line_end_complete : {X : Type 0} (x : X) (i : ℕ) (rest : List ℕ) → line_end x i (10 ∷ rest) ≡ part x (suc i) rest
-line_end_complete x i rest = refl
