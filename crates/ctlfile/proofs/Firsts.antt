@@ -1,10 +1,10 @@
 -- The first that passes a test, in lists that are gone through by number. Assumes nothing.
-use Rattle.std.proofs.Common.{◌≡◌, ℕ, zero, suc, ◌+◌, ◌<◌, ◌≤◌, Bool, true, false, ◌⊎◌, List, [], ◌∷◌, ◌++◌, map, Some, None, Option as Maybe, sym, refl, ap, ◌∙◌, inl, inr, arith}
+use Rattle.std.proofs.Common.{◌≡◌, ℕ, zero, suc, ◌+◌, ◌<◌, ◌≤◌, Bool, true, false, ◌⊎◌, List, [], ◌∷◌, ◌++◌, map, Some, None, Option as Maybe, MatchOption, sym, refl, ap, ◌∙◌, inl, inr, arith}
 use mathlib.Core.Option.{Option, none, some}
 use Rattle.std.specs.List.{range_with_len}
 use Rattle.std.proofs.lemmas.Bool.{cases_eq}
 use Rattle.model.specs.Lists.{first, joined}
-use Rattle.ctlfile.specs.Windows.{told}
+use Rattle.ctlfile.specs.Windows.{told, FirstNumber}
 
 -- an option as the code has it
 pub told_none : {X : Type 0} (o : Option X) → None ≡ told o → o ≡ none
@@ -73,3 +73,20 @@ module _ {X : Type 0} (f : X → Bool) where
   pub map_some_told : (g : ℕ → X) (n i : ℕ) → i < n → ((k : ℕ) → k < i → f (g k) ≡ false) → f (g i) ≡ true → Some (g i) ≡ told (first f (map g (range_with_len 0 n)))
   map_some_told g n i l h e =
       joined_some_told (λ k. g k ∷ []) n i (g i) l (λ k m. one_fails (g k) (h k m)) (one_passes (g i) e) ∙ ap {B = Maybe X} (λ l. told (first f l)) (sym (map_is g 0 n))
+
+-- what a search by number finds, one for each number
+pub numbered_told : {X : Type 0} (f : X → Bool) (g : ℕ → X) (n : ℕ) (o : Maybe ℕ) (r : Maybe X) → FirstNumber (λ k. f (g k)) n o → MatchOption o (r ≡ None) (λ i. r ≡ Some (g i)) → r ≡ told (first f (map g (range_with_len 0 n)))
+numbered_told f g n None r h e = e ∙ map_none_told f g n h
+numbered_told f g n (Some i) r h e = e ∙ map_some_told f g n i h.0 h.2 h.1
+
+-- the same, where the test is told in another way
+pub numbered_as_told : {X : Type 0} (test : ℕ → Bool) (f : X → Bool) (g : ℕ → X) (n : ℕ) (o : Maybe ℕ) (r : Maybe X) → ((k : ℕ) → f (g k) ≡ test k) → FirstNumber test n o → MatchOption o (r ≡ None) (λ i. r ≡ Some (g i)) → r ≡ told (first f (map g (range_with_len 0 n)))
+numbered_as_told test f g n None r same h e = e ∙ map_none_told f g n (λ k l. same k ∙ h k l)
+numbered_as_told test f g n (Some i) r same h e = e ∙ map_some_told f g n i h.0 (λ k l. same k ∙ h.2 k l) (same i ∙ h.1)
+
+-- what `find` finds over a range
+pub from_range : (test : ℕ → Bool) (n : ℕ) (o : Maybe ℕ)
+    → MatchOption o ((k : ℕ) → 0 ≤ k → k < n → test k ≡ false) (λ i. (0 ≤ i) × (i < n) × (test i ≡ true) × ((k : ℕ) → 0 ≤ k → k < i → test k ≡ false))
+    → FirstNumber test n o
+from_range test n None h = λ k l. h k (omega arith) l
+from_range test n (Some i) h = (h.1, h.2, λ k l. h.3 k (omega arith) l)

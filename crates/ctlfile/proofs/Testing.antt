@@ -1,12 +1,30 @@
 -- The tests of a row and of an arrow, part by part. Assumes nothing.
-use Rattle.std.proofs.Common.{◌≡◌, ℕ, zero, suc, ◌+◌, ◌<◌, Bool, true, false, ◌&&◌, ltb, List, [], ◌∷◌, length, get_or, sym, refl, ◌∙◌, arith}
-use Rattle.std.proofs.lemmas.Bool.{lt-ltb, le-ltb, ltb-true, and_parts}
+use Rattle.std.proofs.Common.{◌≡◌, ℕ, zero, suc, ◌+◌, ◌<◌, Bool, true, false, ◌≤◌, ◌⊎◌, inl, inr, ◌&&◌, ltb, List, [], ◌∷◌, length, get_or, sym, refl, ap, ◌∙◌, arith}
+use Rattle.std.specs.List.{list_all, range_with_len}
+use Rattle.std.proofs.lemmas.Bool.{lt-ltb, le-ltb, ltb-true, and_parts, cases_eq, true≢false}
 use Rattle.model.specs.Automaton.{Automaton, weight, Row, no_row}
 use Rattle.model.specs.Lists.{every}
 use Rattle.model.specs.File.{Window, mark_in, good_row, bad_arrow, place}
 use Rattle.model.proofs.Lists.{decides_every, in_getD}
 
 -- EVERY, by number
+
+list_all_at : (p : ℕ → Bool) (a n : ℕ) → list_all p (range_with_len a n) ≡ true → (k : ℕ) → a ≤ k → k < a + n → p k ≡ true
+list_all_at p a zero e k l m = absurd (omega arith)
+list_all_at p a (suc n) e k l m =
+    let (t, r) = and_parts (p a) (list_all p (range_with_len (a + 1) n)) e in go t (λ q. list_all_at p (a + 1) n r k (omega arith) (omega arith)) (cases_eq k a)
+  where
+    go : p a ≡ true → ((k ≡ a → ⊥) → p k ≡ true) → (k ≡ a) ⊎ (k ≡ a → ⊥) → p k ≡ true
+    go t above (inl q) = ap {B = Bool} p q ∙ t
+    go t above (inr q) = above q
+
+list_all_fails : (p : ℕ → Bool) (a n : ℕ) → list_all p (range_with_len a n) ≡ false → (k : ℕ) × (k < a + n) × (p k ≡ false)
+list_all_fails p a zero e = absurd (true≢false e)
+list_all_fails p a (suc n) e = go (p a) refl (list_all_fails p (a + 1) n)
+  where
+    go : (b : Bool) → p a ≡ b → (list_all p (range_with_len (a + 1) n) ≡ false → (k : ℕ) × (k < a + 1 + n) × (p k ≡ false)) → (k : ℕ) × (k < a + suc n) × (p k ≡ false)
+    go true t above = let w = above (rw t at e) in (w.0, omega (arith, w.1), w.2)
+    go false t above = (a, omega arith, t)
 
 pub every_passes : {X : Type 0} (f : X → Bool) (L : List X) (d : X) → ((k : ℕ) → k < length L → f (get_or L k d) ≡ true) → every f L ≡ true
 every_passes f [] d h = refl
@@ -23,6 +41,14 @@ every_fails {X} f (x ∷ L) (suc i) d l e = go (f x) (every_fails f L i d (omega
 
 pub every_at : {X : Type 0} (f : X → Bool) (L : List X) (i : ℕ) (d : X) → every f L ≡ true → i < length L → f (get_or L i d) ≡ true
 every_at f L i d e l = (decides_every f (λ x. f x ≡ true) (λ x. (λ t. t, λ t. t)) L).0 e (get_or L i d) (in_getD L i d l)
+
+-- every one of so many, by number
+pub every_numbered : {X : Type 0} (f : X → Bool) (L : List X) (d : X) (n : ℕ) → length L ≡ n → list_all (λ k. f (get_or L k d)) (range_with_len 0 n) ≡ every f L
+every_numbered {X} f L d n long = go (list_all (λ k. f (get_or L k d)) (range_with_len 0 n)) refl
+  where
+    go : (b : Bool) → list_all (λ k. f (get_or L k d)) (range_with_len 0 n) ≡ b → list_all (λ k. f (get_or L k d)) (range_with_len 0 n) ≡ every f L
+    go true e = e ∙ sym (every_passes f L d (λ k l. list_all_at (λ k. f (get_or L k d)) 0 n e k (omega arith) (omega (arith, long))))
+    go false e = let w = list_all_fails (λ k. f (get_or L k d)) 0 n e in e ∙ sym (every_fails f L w.0 d (omega (arith, long, w.1)) w.2)
 
 -- what good rows say of a command and of a next state
 

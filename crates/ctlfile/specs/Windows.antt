@@ -1,12 +1,13 @@
 -- What a window shows of a file, and the places that are looked at in it.
-use Rattle.std.specs.Prelude.{◌≡◌, ℕ, ◌+◌, ◌*◌, true, List, map, length, Some, None, Option as Maybe}
+use Rattle.std.specs.Prelude.{◌≡◌, ℕ, ◌+◌, ◌*◌, ◌<◌, Bool, true, false, ◌&&◌, nat_lt, MatchOption, List, map, length, Some, None, Option as Maybe}
 use Rattle.std.proofs.Math.Option.{Option, none, some}
 use Rattle.std.specs.List.{range_with_len}
 use Rattle.model.specs.declared.refusal.Place.{Place}
-use Rattle.model.specs.Automaton.{Automaton}
+use Rattle.model.specs.Automaton.{Automaton, weight}
 use Rattle.model.specs.Lists.{every, joined}
-use Rattle.model.specs.File.{byte_mark, pieces, row_of, good_row, place}
+use Rattle.model.specs.File.{byte_mark, pieces, row_of, good_row, place, mark_in}
 use Rattle.model.specs.File as File
+use Rattle.ctlfile.specs.declared.certificate.Source.{Source}
 use Rattle.ctlfile.specs.declared.window.Window.{Window}
 
 -- what m records for S situations, the marks of n rule states in m states, and c show
@@ -34,6 +35,15 @@ Good A w = every (good_row A (length (shown w).rows)) (shown w).rows ≡ true
 abbrev pub told : {X : Type 0} → Option X → Maybe X
 told none = None
 told (some x) = Some x
+
+-- the first of the numbers below n that passes the test, or none passes
+abbrev pub FirstNumber : (ℕ → Bool) → ℕ → Maybe ℕ → Type 0
+FirstNumber test n r = MatchOption r ((k : ℕ) → k < n → test k ≡ false) (λ i. (i < n) × (test i ≡ true) × ((k : ℕ) → k < i → test k ≡ false))
+
+-- p follows the source's rule state, but is not present in the next state with at least the mark, plus 1 if p is rejecting
+abbrev pub bad_follower : Automaton → File.Window → Source → ℕ → Bool
+bad_follower A w from p =
+    A.follows from.rule_state from.command from.situation p && nat_lt (mark_in w from.next p) (from.mark + weight A p)
 
 -- the places of bytes in a state, and in m states
 abbrev pub byte_places_in : ℕ → ℕ → List Place

@@ -3,9 +3,8 @@
 ghost use Rattle.std.specs.Prelude.{◌≡◌};
 ghost use Rattle.model.specs.File as File;
 
-use crate::certificate::first_bad_place;
-use crate::opening::{trailer_of, window_on};
-use crate::records::are_good_records;
+use crate::certificate::Candidate;
+use crate::opening::trailer_of;
 use model::refusal::Refusal;
 use rules::Rule;
 
@@ -15,11 +14,11 @@ pub fn check<R: Rule>(rule: &R, file: &[u8]) -> Result<u8, Refusal>
     ensures { result ≡ File.check (R.Rule.meaning rule.now) file.now }
 {
     let trailer = trailer_of(rule, file)?;
-    let window = window_on(&trailer, file);
-    if !are_good_records(rule, &window) {
+    let window = trailer.window_on(file);
+    if !window.has_good_records(rule) {
         return Err(Refusal::Record);
     }
-    match first_bad_place(rule, &window) {
+    match (Candidate { rule, window }).first_bad_place() {
         Some(place) => Err(Refusal::Certificate(place)),
         None => Ok(window.count),
     }

@@ -14,36 +14,38 @@ fn mark_of(byte: u8) -> u8
     if byte == 255 { 0 } else { byte + 1 }
 }
 
-/// Where the record of a state begins.
-fn record_at(window: &Window, state: u16) -> usize
-    ensures { result ≡ state * (1 + 2 * window.now.situations) }
-{
-    state as usize * (1 + 2 * window.situations as usize)
-}
+impl Window<'_> {
+    /// Where the record of a state begins.
+    fn record_at(&self, state: u16) -> usize
+        ensures { result ≡ state * (1 + 2 * self.now.situations) }
+    {
+        state as usize * (1 + 2 * self.situations as usize)
+    }
 
-/// The mark of a rule state in a state.
-pub fn mark_at(window: &Window, state: u16, rule_state: u8) -> u8
-    requires known_state { state < window.now.states }
-    requires known_rule_state { rule_state < window.now.rule_states }
-    ensures { result ≡ mark_in (shown window.now) state rule_state }
-{
-    mark_of(window.certificate[state as usize * window.rule_states as usize + rule_state as usize])
-}
+    /// The mark of a rule state in a state.
+    pub fn mark_at(&self, state: u16, rule_state: u8) -> u8
+        requires known_state { state < self.now.states }
+        requires known_rule_state { rule_state < self.now.rule_states }
+        ensures { result ≡ mark_in (shown self.now) state rule_state }
+    {
+        mark_of(self.certificate[state as usize * self.rule_states as usize + rule_state as usize])
+    }
 
-/// The command of a state.
-pub fn command_at(window: &Window, state: u16) -> u8
-    requires { state < window.now.states }
-    ensures { result ≡ (slice_index_or (shown window.now).rows state no_row).command }
-{
-    window.records[record_at(window, state)]
-}
+    /// The command of a state.
+    pub fn command_at(&self, state: u16) -> u8
+        requires { state < self.now.states }
+        ensures { result ≡ (slice_index_or (shown self.now).rows state no_row).command }
+    {
+        self.records[self.record_at(state)]
+    }
 
-/// The next state of a state in a situation.
-pub fn next_at(window: &Window, state: u16, situation: u8) -> u16
-    requires known_state { state < window.now.states }
-    requires known_situation { situation < window.now.situations }
-    ensures { result ≡ slice_index (slice_index_or (shown window.now).rows state no_row).nexts situation }
-{
-    let at = record_at(window, state) + 1 + 2 * situation as usize;
-    u16::from_le_bytes([window.records[at], window.records[at + 1]])
+    /// The next state of a state in a situation.
+    pub fn next_at(&self, state: u16, situation: u8) -> u16
+        requires known_state { state < self.now.states }
+        requires known_situation { situation < self.now.situations }
+        ensures { result ≡ slice_index (slice_index_or (shown self.now).rows state no_row).nexts situation }
+    {
+        let at = self.record_at(state) + 1 + 2 * situation as usize;
+        u16::from_le_bytes([self.records[at], self.records[at + 1]])
+    }
 }

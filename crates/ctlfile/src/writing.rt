@@ -14,6 +14,8 @@ use rules::Rule;
 use synthesis::position::Position;
 use synthesis::state::State;
 
+// Parts are written by index, and not through `chunks_exact_mut`: of a slice lent so, a proof knows the length and no byte (tried).
+
 /// Writes the record of a state: its command, and its next states of two bytes each.
 fn write_record(state: &State, situations: u8, part: &mut [u8])
     requires few { situations ≤ 8 }
@@ -21,9 +23,9 @@ fn write_record(state: &State, situations: u8, part: &mut [u8])
     ensures { part.new ≡ record_bytes (row_of situations state.now) }
 {
     part[0] = state.command;
-    for situation in 0..situations as usize {
+    for (situation, next) in state.nexts[..situations as usize].iter().enumerate() {
         let at = 1 + 2 * situation;
-        part[at..at + 2].copy_from_slice(&state.nexts[situation].to_le_bytes());
+        part[at..at + 2].copy_from_slice(&next.to_le_bytes());
     }
 }
 
@@ -40,8 +42,8 @@ fn write_position(position: &Position, rule_states: u8, part: &mut [u8])
     requires room { length part.old ≡ rule_states }
     ensures { part.new ≡ map tally_byte (view rule_states position.now) }
 {
-    for rule_state in 0..rule_states as usize {
-        part[rule_state] = tally_of(position.marks[rule_state]);
+    for (rule_state, mark) in position.marks[..rule_states as usize].iter().enumerate() {
+        part[rule_state] = tally_of(*mark);
     }
 }
 
@@ -52,9 +54,9 @@ fn write_records(states: &[State], situations: u8, part: &mut [u8])
     ensures { part.new ≡ joined record_bytes (map (row_of situations) states.now) }
 {
     let width = 1 + 2 * situations as usize;
-    for state in 0..states.len() {
-        let at = state * width;
-        write_record(&states[state], situations, &mut part[at..at + width]);
+    for (number, state) in states.iter().enumerate() {
+        let at = number * width;
+        write_record(state, situations, &mut part[at..at + width]);
     }
 }
 
@@ -65,13 +67,9 @@ fn write_certificate(states: &[State], rule_states: u8, part: &mut [u8])
     ensures { part.new ≡ tallies (map (position_of rule_states) states.now) }
 {
     let width = rule_states as usize;
-    for state in 0..states.len() {
-        let at = state * width;
-        write_position(
-            &states[state].position,
-            rule_states,
-            &mut part[at..at + width],
-        );
+    for (number, state) in states.iter().enumerate() {
+        let at = number * width;
+        write_position(&state.position, rule_states, &mut part[at..at + width]);
     }
 }
 
@@ -113,8 +111,8 @@ fn body_size(states: &[State], situations: u8, rule_states: u8) -> usize
     ensures counted { result ≡ length states.now * (1 + 2 * situations + rule_states) }
 {
     let mut size = 0;
-    for state in 0..states.len() {
-        size += state_size(&states[state], situations, rule_states);
+    for state in states {
+        size += state_size(state, situations, rule_states);
     }
     size
 }

@@ -11,31 +11,23 @@ window_on-window-requires g c =
     let t = c.in_ok-trailer.ensures in
     record { states = (t.some_state, t.few_states); count = t.low_count; room = t.room }
 
-pub first_bad_place-requires : goal.first_bad_place-requires
-first_bad_place-requires g c =
-    let t = c.in_ok-trailer.ensures in
-    record {
-      fits = record { situations = c.window_on-window.ensures.situations ∙ t.situations; states = c.window_on-window.ensures.rule_states ∙ t.states };
-      good = sym c.are_good_records.ensures ∙ c.if-not-are_good_records.false;
-    }
-
-pub returns-then-not-are_good_records : goal.returns-then-not-are_good_records
-returns-then-not-are_good_records g c =
+pub returns-then-not-has_good_records : goal.returns-then-not-has_good_records
+returns-then-not-has_good_records g c =
     let A = g.R.Rule.meaning c.args.rule.now in
     let w = c.window_on-window.result in
     let through : File.check A c.args.file.now ≡ look_through A (shown w) = c.in_ok-trailer.ensures.through ∙ ap {B = Result ℕ Refusal} (look_through A) (sym c.window_on-window.ensures.shows) in
-    sym (through ∙ not_records A (shown w) (sym c.are_good_records.ensures ∙ c.if-not-are_good_records.true))
+    sym (through ∙ not_records A (shown w) (sym c.has_good_records.ensures ∙ c.if-not-has_good_records.true))
 
 pub returns-in-Some : goal.returns-in-Some
 returns-in-Some g c =
     let A = g.R.Rule.meaning c.args.rule.now in
     let w = c.window_on-window.result in
     let through : File.check A c.args.file.now ≡ look_through A (shown w) = c.in_ok-trailer.ensures.through ∙ ap {B = Result ℕ Refusal} (look_through A) (sym c.window_on-window.ensures.shows) in
-    sym (through ∙ broken A (shown w) c.in-Some.place (sym c.are_good_records.ensures ∙ c.if-not-are_good_records.false) c.in-Some.ensures)
+    sym (through ∙ broken A (shown w) c.in-Some.place (sym c.has_good_records.ensures ∙ c.if-not-has_good_records.false) c.in-Some.ensures)
 
 pub returns-in-None : goal.returns-in-None
 returns-in-None g c =
     let A = g.R.Rule.meaning c.args.rule.now in
     let w = c.window_on-window.result in
     let through : File.check A c.args.file.now ≡ look_through A (shown w) = c.in_ok-trailer.ensures.through ∙ ap {B = Result ℕ Refusal} (look_through A) (sym c.window_on-window.ensures.shows) in
-    sym (through ∙ whole A (shown w) (sym c.are_good_records.ensures ∙ c.if-not-are_good_records.false) c.in-None.ensures ∙ ap {B = Result ℕ Refusal} Ok (count_shown w))
+    sym (through ∙ whole A (shown w) (sym c.has_good_records.ensures ∙ c.if-not-has_good_records.false) c.in-None.ensures ∙ ap {B = Result ℕ Refusal} Ok (count_shown w))

@@ -11,7 +11,7 @@ pub loop-state-preserved : goal.loop-state-preserved
 loop-state-preserved c =
     let S = c.args.situations in
     let n = c.args.rule_states in
-    let s = c.loop-state.state in
+    let s = c.loop-state.state-index in
     let states : List State = c.args.states.now in
     let none : State = record { command = 0; nexts = []; position = record { marks = [] } } in
     let a = ap {B = ℕ} length (joined_map_step record_bytes (row_of S) states s none (omega arith)) ∙ length-append (joined record_bytes (map (row_of S) (take s states))) (record_bytes (row_of S (get_or states s none))) in
@@ -24,8 +24,8 @@ returns c =
     let S = c.args.situations in
     let n = c.args.rule_states in
     let states : List State = c.args.states.now in
-    let e : c.loop-state.state ≡ length states = omega arith in
-    let all : take c.loop-state.state states ≡ states = take_all c.loop-state.state states (omega arith) in
+    let e : c.loop-state.state-index ≡ length states = omega arith in
+    let all : take c.loop-state.state-index states ≡ states = take_all c.loop-state.state-index states (omega arith) in
     record {
       takes = c.loop-state.invariant.0 ∙ ap {B = ℕ} (λ (l : List State). length (joined record_bytes (map (row_of S) l)) + length (joined (map tally_byte) (map (position_of n) l))) all;
       counted = c.loop-state.invariant.1 ∙ ap {B = ℕ} (λ k. k * (1 + 2 * S + n)) e;

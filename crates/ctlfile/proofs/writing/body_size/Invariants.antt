@@ -6,5 +6,5 @@ use Rattle.ctlfile.proofs.writing.body_size.Given as goal
 
 abbrev pub invariant-loop-state : goal.invariant-loop-state
 invariant-loop-state l =
-    (l.size ≡ length (joined record_bytes (map (row_of l.situations) (take l.state l.states))) + length (joined (map tally_byte) (map (position_of l.rule_states) (take l.state l.states))))
-    × (l.size ≡ l.state * (1 + 2 * l.situations + l.rule_states))
+    (l.size ≡ length (joined record_bytes (map (row_of l.situations) (take l.state-index l.states))) + length (joined (map tally_byte) (map (position_of l.rule_states) (take l.state-index l.states))))
+    × (l.size ≡ l.state-index * (1 + 2 * l.situations + l.rule_states))

@@ -4,5 +4,5 @@ use Rattle.model.specs.File.{tally_byte}
 use Rattle.synthesis.specs.Answers.{position_of}
 use Rattle.ctlfile.proofs.writing.write_certificate.Given as goal
 
-abbrev pub invariant-loop-state : goal.invariant-loop-state
-invariant-loop-state l = take (l.state * l.rule_states) l.part ≡ joined (map tally_byte) (map (position_of l.rule_states) (take l.state l.states))
+abbrev pub invariant-loop-number : goal.invariant-loop-number
+invariant-loop-number l = take (l.number * l.rule_states) l.part ≡ joined (map tally_byte) (map (position_of l.rule_states) (take l.number l.states))

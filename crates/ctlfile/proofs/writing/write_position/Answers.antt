@@ -1,5 +1,5 @@
 use Rattle.std.proofs.Common.{◌≡◌, ℕ, List, [], ◌∷◌, ◌++◌, map, take, sym, ap, ◌∙◌, arith}
-use Rattle.std.proofs.lemmas.List.{take_more_set, map_more}
+use Rattle.std.proofs.lemmas.List.{take_more_set, map_more, get_or-take}
 use Rattle.model.specs.File.{tally_byte}
 use Rattle.ctlfile.proofs.Filling.{filled_all}
 use Rattle.ctlfile.proofs.writing.write_position.Goals as goal
@@ -10,6 +10,7 @@ loop-rule_state-preserved c =
     let q = c.loop-rule_state.rule_state in
     take_more_set c.loop-rule_state.part q c.tally_of.result (omega arith)
     ∙ (λ i. c.loop-rule_state.invariant i ++ (c.tally_of.ensures i ∷ []))
+    ∙ ap {B = List ℕ} (λ m. map tally_byte (take q marks) ++ (tally_byte m ∷ [])) (get_or-take c.args.rule_states marks q 0 (omega arith))
     ∙ sym (map_more tally_byte marks q 0 (omega arith))
 
 pub returns : goal.returns

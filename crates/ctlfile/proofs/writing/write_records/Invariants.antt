@@ -4,5 +4,5 @@ use Rattle.model.specs.File.{record_bytes}
 use Rattle.synthesis.specs.Answers.{row_of}
 use Rattle.ctlfile.proofs.writing.write_records.Given as goal
 
-abbrev pub invariant-loop-state : goal.invariant-loop-state
-invariant-loop-state l = take (l.state * (1 + 2 * l.situations)) l.part ≡ joined record_bytes (map (row_of l.situations) (take l.state l.states))
+abbrev pub invariant-loop-number : goal.invariant-loop-number
+invariant-loop-number l = take (l.number * (1 + 2 * l.situations)) l.part ≡ joined record_bytes (map (row_of l.situations) (take l.number l.states))
