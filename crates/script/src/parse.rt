@@ -131,7 +131,7 @@ fn keyword_of(word: &[u8]) -> Keyword
 // What stands after the word `free`.
 fn free_numbers(words: &mut Words<'_>) -> Result<Free, BadLine>
     ensures same { words.new.line.now ≡ words.old.line.now }
-    ensures numbers { IfOk result (λ f. FreeNumbers words.old.line.now words.old.at words.new.at (free f.situations f.commands)) }
+    ensures numbers { IfOk result (λ f. FreeNumbers words.old.line.now words.old.at words.new.at (free f.numbers.situations f.numbers.commands)) }
 {
     let situations = next_number(words)?;
     let commands = next_number(words)?;
@@ -141,7 +141,7 @@ fn free_numbers(words: &mut Words<'_>) -> Result<Free, BadLine>
 // What stands after the word `reply`.
 fn reply_numbers(words: &mut Words<'_>) -> Result<Reply, BadLine>
     ensures same { words.new.line.now ≡ words.old.line.now }
-    ensures numbers { IfOk result (λ f. ReplyNumbers words.old.line.now words.old.at words.new.at (reply f.situations f.commands f.situation f.command)) }
+    ensures numbers { IfOk result (λ f. ReplyNumbers words.old.line.now words.old.at words.new.at (reply f.numbers.situations f.numbers.commands f.situation f.command)) }
 {
     let situations = next_number(words)?;
     let commands = next_number(words)?;
