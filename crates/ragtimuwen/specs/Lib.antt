@@ -1,1 +1,2 @@
 pub mod Solvable
+pub mod Printed

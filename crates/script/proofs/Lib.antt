@@ -1,4 +1,3 @@
 pub mod Denoted
-pub mod SameLine
 pub mod Hex
-pub mod Saying
+pub mod Rest

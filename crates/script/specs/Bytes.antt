@@ -1,13 +1,9 @@
 -- How a word of a script writes bytes.
-use Rattle.std.specs.Prelude.{◌≡◌, ℕ, ◌+◌, ◌-◌, ◌*◌, ◌≤◌, cond, ◌⊎◌, List, [], ◌∷◌, take, drop, vec_items, codes, nat_lt}
+use Rattle.std.specs.Prelude.{◌≡◌, ℕ, ◌+◌, ◌-◌, ◌*◌, cond, ◌⊎◌, List, [], ◌∷◌, take, drop, vec_items, codes, nat_lt}
 use Rattle.script.specs.declared.bytes.Source.{Source}
 use Rattle.script.specs.declared.bytes.Source.TheVariants.{Script, File}
 
--- a hexadecimal digit: 0 to 9, a to f or A to F
-abbrev pub IsHex : ℕ → Type 0
-IsHex b = ((48 ≤ b) × (b ≤ 57)) ⊎ (((97 ≤ b) × (b ≤ 102)) ⊎ ((65 ≤ b) × (b ≤ 70)))
-
--- its value
+-- the value of a hexadecimal digit: 0 to 9, a to f or A to F
 abbrev pub hex_value : ℕ → ℕ
 hex_value b = cond (nat_lt b 58) (b - 48) (cond (nat_lt b 71) (b - 55) (b - 87))
 

@@ -32,6 +32,12 @@ pub record Upcoming (line : List ℕ) (from : ℕ) (word : List ℕ) : Type 0 wh
   pub to : ℕ
   pub stands : Stands line from to word
 
+-- whether the next word from one place on begins with a decimal digit
+abbrev pub BeginsWithDigit : List ℕ → ℕ → Bool → Type 0
+BeginsWithDigit line from true = (word : List ℕ) × Upcoming line from word × (48 ≤ slice_index word 0) × (slice_index word 0 ≤ 57)
+BeginsWithDigit line from false =
+    (word : List ℕ) → Upcoming line from word → 48 ≤ slice_index word 0 → slice_index word 0 ≤ 57 → ⊥
+
 -- the first n bytes are decimal digits
 abbrev pub Digits : List ℕ → ℕ → Type 0
 Digits word n = (k : ℕ) → k < n → (48 ≤ slice_index word k) × (slice_index word k ≤ 57)

@@ -6,5 +6,6 @@ pub mod bad_line;
 pub mod bytes;
 pub mod lines;
 pub mod parse;
+mod places;
 pub mod rule;
 pub mod words;

@@ -1,24 +1,17 @@
 //! The lines of a script.
-ghost use Rattle.std.specs.Prelude.{◌≡◌, ◌<◌, ◌≤◌, length, MatchOption, slice_index};
-ghost use Rattle.script.specs.Lines.{Unbroken, LineAt};
+ghost use Rattle.std.specs.Prelude.{◌≡◌, ◌-◌, ◌≤◌, ◌==◌, length, MatchOption};
+ghost use Rattle.std.specs.Iterator.{at_most};
+ghost use Rattle.script.specs.Lines.{LineAt};
 
-// The first place from `from` on where a line ends, or the script's length.
-fn line_end(script: &[u8], from: usize) -> usize
-    requires { from ≤ length script.now }
-    ensures onward { from ≤ result }
-    ensures within { result ≤ length script.now }
-    ensures inside { Unbroken script.now from result }
-    ensures stops { result < length script.now → slice_index script.now result ≡ 10 }
+use crate::places::first_from;
+
+fn ends_line(byte: u8) -> bool
+    ensures { result ≡ byte == 10 }
 {
-    for at in from..script.len() {
-        if script[at] == b'\n' {
-            return at;
-        }
-    }
-    script.len()
+    byte == b'\n'
 }
 
-/// The lines of a script, taken one by one.
+/// The lines of a script, taken one by one, without the bytes that end them.
 #[derive(Drop)]
 pub struct Lines<'a> {
     script: &'a [u8],
@@ -32,22 +25,23 @@ impl<'a> Lines<'a> {
     {
         Lines { script, at: 0 }
     }
+}
 
-    /// The next line, without the byte that ends it; none at the script's end.
-    pub fn next(&mut self) -> Option<&'a [u8]>
-        ensures same { self.new.script.now ≡ self.old.script.now }
-        ensures line { MatchOption result (self.old.at ≡ length self.old.script.now) (λ l. LineAt self.old.script.now self.old.at self.new.at l.now) }
-    {
+impl<'a> Iterator for Lines<'a> {
+    type Item = &'a [u8];
+
+    ghost next_gives = { λ before given after. (after.script.now ≡ before.script.now)
+        × MatchOption given (before.at ≡ length before.script.now) (λ line. LineAt before.script.now before.at after.at line.now) };
+
+    ghost remaining = { λ lines. at_most (length lines.script.now - lines.at) };
+
+    fn next(&mut self) -> Option<&'a [u8]> {
         let start = self.at;
         if start == self.script.len() {
             return None;
         }
-        let end = line_end(self.script, start);
-        self.at = if end < self.script.len() {
-            end + 1
-        } else {
-            end
-        };
+        let end = first_from(self.script, start, ends_line);
+        self.at = self.script.len().min(end + 1);
         Some(&self.script[start..end])
     }
 }

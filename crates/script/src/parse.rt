@@ -1,17 +1,19 @@
 //! What a line of a script says.
-ghost use Rattle.std.specs.Prelude.{◌≡◌, ◌≤◌, length, IfOk, codes};
-ghost use Rattle.script.specs.Words.{Blank};
+ghost use Rattle.std.specs.Prelude.{◌≡◌, ◌≤◌, IfOk, codes};
+ghost use Rattle.script.specs.Words.{Stands, BeginsWithDigit};
 ghost use Rattle.script.specs.Grammar.{NumberAt, FreeNumbers, ReplyNumbers, Writes, TextAt, NumbersAndText, SetupAt};
-ghost use Rattle.script.specs.Keywords.{Spells};
+ghost use Rattle.script.specs.Keywords.{spelling, Spells};
 ghost use Rattle.script.specs.Commands.{Says, Asks, word_of};
 ghost use Rattle.model.specs.Rules.{free, reply};
 ghost use Rattle.script.specs.Meaning.{meaning_of, depth};
+ghost use Rattle.script.specs.Faults.{fault_of};
 ghost use Rattle.script.specs.declared.parse.Fault.TheVariants.{Line, Memory};
 
 use crate::bad_line::BadLine;
 use crate::bytes::{Source, bytes_of};
 use crate::rule::AnyRule;
 use crate::words::{Words, number};
+use hex::FromHexError;
 use rules::{Free, Reply};
 use std::alloc::{AllocError, AllocFailed, Global};
 
@@ -22,8 +24,7 @@ pub const MOST_LEVELS: u16 = 1000;
 /// What a line asks for.
 #[derive(Drop)]
 pub enum Command {
-    /// The line is blank or a comment.
-    Nothing,
+    /// Show the rule.
     Show(AnyRule),
     /// Read a rule text with these numbers, and show the rule.
     ShowText(Text),
@@ -80,25 +81,18 @@ impl From<AllocError> for Fault {
     }
 }
 
-// The number that the next word denotes, if it is not above `most`.
-fn number_to(words: &mut Words<'_>, most: u16) -> Result<u16, BadLine>
-    ensures same { words.new.line.now ≡ words.old.line.now }
-    ensures value { IfOk result (λ n. NumberAt words.old.line.now words.old.at words.new.at n) }
-    ensures least { IfOk result (λ n. n ≤ most) }
-{
-    match words.next() {
-        Some(word) => number(word, most),
-        None => Err(BadLine::NumberMissing),
-    }
-}
+impl From<FromHexError> for Fault {
+    ghost from_gives = { λ error r. r ≡ fault_of error };
 
-// The number of one byte that the next word denotes.
-fn next_number(words: &mut Words<'_>) -> Result<u8, BadLine>
-    ensures same { words.new.line.now ≡ words.old.line.now }
-    ensures value { IfOk result (λ n. NumberAt words.old.line.now words.old.at words.new.at n) }
-{
-    let n = number_to(words, 255)?;
-    Ok(n as u8)
+    fn from(error: FromHexError) -> Fault {
+        match error {
+            FromHexError::InvalidHexCharacter { .. } => Fault::Line(BadLine::NotHex),
+            FromHexError::OddLength | FromHexError::InvalidStringLength => {
+                Fault::Line(BadLine::OddHex)
+            }
+            FromHexError::OutOfMemory => Fault::Memory,
+        }
+    }
 }
 
 // The words that the script language knows.
@@ -110,174 +104,194 @@ enum Keyword {
     Pair,
     Text,
     Generate,
-    Other,
 }
 
-// Which of them a word is.
-fn keyword_of(word: &[u8]) -> Keyword
-    ensures { Spells word.now result }
-{
-    match word {
-        b"show" => Keyword::Show,
-        b"free" => Keyword::Free,
-        b"reply" => Keyword::Reply,
-        b"pair" => Keyword::Pair,
-        b"text" => Keyword::Text,
-        b"generate" => Keyword::Generate,
-        _ => Keyword::Other,
-    }
-}
-
-// What stands after the word `free`.
-fn free_numbers(words: &mut Words<'_>) -> Result<Free, BadLine>
-    ensures same { words.new.line.now ≡ words.old.line.now }
-    ensures numbers { IfOk result (λ f. FreeNumbers words.old.line.now words.old.at words.new.at (free f.situations f.commands)) }
-{
-    let situations = next_number(words)?;
-    let commands = next_number(words)?;
-    Ok(Free::new(situations, commands))
-}
-
-// What stands after the word `reply`.
-fn reply_numbers(words: &mut Words<'_>) -> Result<Reply, BadLine>
-    ensures same { words.new.line.now ≡ words.old.line.now }
-    ensures numbers { IfOk result (λ f. ReplyNumbers words.old.line.now words.old.at words.new.at (reply f.situations f.commands f.situation f.command)) }
-{
-    let situations = next_number(words)?;
-    let commands = next_number(words)?;
-    let situation = next_number(words)?;
-    let command = next_number(words)?;
-    Ok(Reply::new(situations, commands, situation, command))
-}
-
-// The rule that the next words write, with pairs at most `levels` deep.
-fn rule(heap: Global, words: &mut Words<'_>, levels: u16) -> Result<AnyRule, Fault>
-    ensures same { words.new.line.now ≡ words.old.line.now }
-    ensures writes { IfOk result (λ a. Writes words.old.line.now words.old.at words.new.at (meaning_of a)) }
-    ensures shallow { IfOk result (λ a. depth a ≤ levels) }
-{
-    let Some(word) = words.next() else {
-        return Err(Fault::Line(BadLine::RuleExpected));
-    };
-    match keyword_of(word) {
-        Keyword::Free => Ok(AnyRule::Free(free_numbers(words)?)),
-        Keyword::Reply => Ok(AnyRule::Reply(reply_numbers(words)?)),
-        Keyword::Pair => {
-            if levels == 0 {
-                return Err(Fault::Line(BadLine::TooDeep));
-            }
-            let first = rule(heap, words, levels - 1)?;
-            let second = rule(heap, words, levels - 1)?;
-            Ok(AnyRule::pair(heap, first, second)?)
+impl Keyword {
+    // The keyword that a word is, if it is any.
+    fn of(word: &[u8]) -> Option<Keyword>
+        ensures { Spells word.now result }
+    {
+        match word {
+            b"show" => Some(Keyword::Show),
+            b"free" => Some(Keyword::Free),
+            b"reply" => Some(Keyword::Reply),
+            b"pair" => Some(Keyword::Pair),
+            b"text" => Some(Keyword::Text),
+            b"generate" => Some(Keyword::Generate),
+            _ => None,
         }
-        Keyword::Show | Keyword::Text | Keyword::Generate | Keyword::Other => Err(Fault::Line(
-            BadLine::RuleExpected,
-        )),
     }
 }
 
-// The words behind `show S C`: `text`, and where the text is.
-fn text_source(heap: Global, words: &mut Words<'_>) -> Result<Source, Fault>
-    ensures same { words.new.line.now ≡ words.old.line.now }
-    ensures writes { IfOk result (λ s. TextAt words.old.line.now words.old.at words.new.at s) }
-{
-    let Some(word) = words.next() else {
-        return Err(Fault::Line(BadLine::RuleExpected));
-    };
-    match keyword_of(word) {
-        Keyword::Text => match words.next() {
-            Some(bytes) => bytes_of(heap, bytes),
-            None => Err(Fault::Line(BadLine::BytesMissing)),
-        },
-        _ => Err(Fault::Line(BadLine::RuleExpected)),
+// The words of a line that are still to be read, and the heap for what they say.
+#[derive(Clone, Copy)]
+struct Parser<'a> {
+    heap: Global,
+    words: Words<'a>,
+}
+
+impl<'a> Parser<'a> {
+    // The number that the next word denotes, if it is not above `most`.
+    fn number_to(&mut self, most: u16) -> Result<u16, BadLine>
+        ensures same { self.new.words.line.now ≡ self.old.words.line.now }
+        ensures value { IfOk result (λ n. NumberAt self.old.words.line.now self.old.words.at self.new.words.at n) }
+        ensures least { IfOk result (λ n. n ≤ most) }
+    {
+        let word = self.words.next().ok_or(BadLine::NumberMissing)?;
+        number(word, most)
+    }
+
+    // The number of one byte that the next word denotes.
+    fn number(&mut self) -> Result<u8, BadLine>
+        ensures same { self.new.words.line.now ≡ self.old.words.line.now }
+        ensures value { IfOk result (λ n. NumberAt self.old.words.line.now self.old.words.at self.new.words.at n) }
+    {
+        let n = self.number_to(u16::from(u8::MAX))?;
+        Ok(n as u8)
+    }
+
+    // The keyword that the next word is: one that a rule or a text begins with is expected.
+    fn keyword(&mut self) -> Result<Keyword, BadLine>
+        ensures same { self.new.words.line.now ≡ self.old.words.line.now }
+        ensures word { IfOk result (λ k. Stands self.old.words.line.now self.old.words.at self.new.words.at (spelling k)) }
+    {
+        let word = self.words.next().ok_or(BadLine::RuleExpected)?;
+        Keyword::of(word).ok_or(BadLine::RuleExpected)
+    }
+
+    // What stands after the word `free`.
+    fn free_numbers(&mut self) -> Result<Free, BadLine>
+        ensures same { self.new.words.line.now ≡ self.old.words.line.now }
+        ensures numbers { IfOk result (λ f. FreeNumbers self.old.words.line.now self.old.words.at self.new.words.at (free f.numbers.situations f.numbers.commands)) }
+    {
+        let situations = self.number()?;
+        let commands = self.number()?;
+        Ok(Free::new(situations, commands))
+    }
+
+    // What stands after the word `reply`.
+    fn reply_numbers(&mut self) -> Result<Reply, BadLine>
+        ensures same { self.new.words.line.now ≡ self.old.words.line.now }
+        ensures numbers { IfOk result (λ f. ReplyNumbers self.old.words.line.now self.old.words.at self.new.words.at (reply f.numbers.situations f.numbers.commands f.situation f.command)) }
+    {
+        let situations = self.number()?;
+        let commands = self.number()?;
+        let situation = self.number()?;
+        let command = self.number()?;
+        Ok(Reply::new(situations, commands, situation, command))
+    }
+
+    // The rule that the next words write, with pairs at most `levels` deep.
+    fn rule(&mut self, levels: u16) -> Result<AnyRule, Fault>
+        ensures same { self.new.words.line.now ≡ self.old.words.line.now }
+        ensures writes { IfOk result (λ a. Writes self.old.words.line.now self.old.words.at self.new.words.at (meaning_of a)) }
+        ensures shallow { IfOk result (λ a. depth a ≤ levels) }
+    {
+        match self.keyword()? {
+            Keyword::Free => Ok(AnyRule::Free(self.free_numbers()?)),
+            Keyword::Reply => Ok(AnyRule::Reply(self.reply_numbers()?)),
+            Keyword::Pair => {
+                let inner = levels.checked_sub(1).ok_or(BadLine::TooDeep)?;
+                let first = self.rule(inner)?;
+                let second = self.rule(inner)?;
+                Ok(AnyRule::pair(self.heap, first, second)?)
+            }
+            _ => Err(Fault::Line(BadLine::RuleExpected)),
+        }
+    }
+
+    // The words behind `show S C`: `text`, and where the text is.
+    fn text_source(&mut self) -> Result<Source, Fault>
+        ensures same { self.new.words.line.now ≡ self.old.words.line.now }
+        ensures writes { IfOk result (λ s. TextAt self.old.words.line.now self.old.words.at self.new.words.at s) }
+    {
+        let Keyword::Text = self.keyword()? else {
+            return Err(Fault::Line(BadLine::RuleExpected));
+        };
+        let word = self.words.next().ok_or(BadLine::BytesMissing)?;
+        bytes_of(self.heap, word)
+    }
+
+    // Two numbers, and a text to read with them.
+    fn text_request(&mut self) -> Result<Text, Fault>
+        ensures same { self.new.words.line.now ≡ self.old.words.line.now }
+        ensures writes { IfOk result (λ t. NumbersAndText self.old.words.line.now self.old.words.at self.new.words.at t.situations t.commands t.source) }
+    {
+        Ok(Text {
+            situations: self.number()?,
+            commands: self.number()?,
+            source: self.text_source()?,
+        })
+    }
+
+    // Whether the next word begins with a digit.
+    fn number_comes(&self) -> bool
+        ensures { BeginsWithDigit self.now.words.line.now self.now.words.at result }
+    {
+        match self.words.peek() {
+            Some([first, ..]) => first.is_ascii_digit(),
+            _ => false,
+        }
+    }
+
+    // What stands behind `show`: a rule, or numbers and a text.
+    fn shown(&mut self) -> Result<Command, Fault>
+        ensures same { self.new.words.line.now ≡ self.old.words.line.now }
+        ensures show { IfOk result (λ c. word_of c ≡ codes "show") }
+        ensures writes { IfOk result (λ c. Asks self.old.words.line.now self.old.words.at self.new.words.at c) }
+    {
+        if self.number_comes() {
+            Ok(Command::ShowText(self.text_request()?))
+        } else {
+            Ok(Command::Show(self.rule(MOST_LEVELS)?))
+        }
+    }
+
+    // What stands behind `generate`.
+    fn setup(&mut self) -> Result<Setup, Fault>
+        ensures same { self.new.words.line.now ≡ self.old.words.line.now }
+        ensures writes { IfOk result (λ s. SetupAt self.old.words.line.now self.old.words.at self.new.words.at s.situations s.commands s.capacity s.limit (meaning_of s.house)) }
+    {
+        Ok(Setup {
+            situations: self.number()?,
+            commands: self.number()?,
+            capacity: self.number_to(u16::MAX)?,
+            limit: self.number()?,
+            house: self.rule(MOST_LEVELS)?,
+        })
+    }
+
+    // What a line asks for that begins with this word.
+    fn command(&mut self, word: &[u8]) -> Result<Command, Fault>
+        ensures same { self.new.words.line.now ≡ self.old.words.line.now }
+        ensures word { IfOk result (λ c. word_of c ≡ word.now) }
+        ensures asks { IfOk result (λ c. Asks self.old.words.line.now self.old.words.at self.new.words.at c) }
+    {
+        match Keyword::of(word) {
+            Some(Keyword::Show) => self.shown(),
+            Some(Keyword::Generate) => Ok(Command::Generate(self.setup()?)),
+            _ => Err(Fault::Line(BadLine::UnknownWord)),
+        }
     }
 }
 
-// Two numbers, and a text to read with them.
-fn text_request(heap: Global, words: &mut Words<'_>) -> Result<Text, Fault>
-    ensures same { words.new.line.now ≡ words.old.line.now }
-    ensures writes { IfOk result (λ t. NumbersAndText words.old.line.now words.old.at words.new.at t.situations t.commands t.source) }
-{
-    let situations = next_number(words)?;
-    let commands = next_number(words)?;
-    let source = text_source(heap, words)?;
-    Ok(Text {
-        situations,
-        commands,
-        source,
-    })
-}
-
-// Whether the next word begins with a digit.
-fn number_comes(words: &Words<'_>) -> bool {
-    match words.peek() {
-        Some([first, ..]) => first.is_ascii_digit(),
-        _ => false,
-    }
-}
-
-// What stands behind `show`: a rule, or numbers and a text.
-fn shown(heap: Global, words: &mut Words<'_>) -> Result<Command, Fault>
-    ensures same { words.new.line.now ≡ words.old.line.now }
-    ensures show { IfOk result (λ c. word_of c ≡ codes "show") }
-    ensures writes { IfOk result (λ c. Asks words.old.line.now words.old.at words.new.at c) }
-{
-    if number_comes(words) {
-        Ok(Command::ShowText(text_request(heap, words)?))
-    } else {
-        Ok(Command::Show(rule(heap, words, MOST_LEVELS)?))
-    }
-}
-
-// What stands behind `generate`.
-fn generation(heap: Global, words: &mut Words<'_>) -> Result<Setup, Fault>
-    ensures same { words.new.line.now ≡ words.old.line.now }
-    ensures writes { IfOk result (λ s. SetupAt words.old.line.now words.old.at words.new.at s.situations s.commands s.capacity s.limit (meaning_of s.house)) }
-{
-    let situations = next_number(words)?;
-    let commands = next_number(words)?;
-    let capacity = number_to(words, 65535)?;
-    let limit = next_number(words)?;
-    let house = rule(heap, words, MOST_LEVELS)?;
-    Ok(Setup {
-        situations,
-        commands,
-        capacity,
-        limit,
-        house,
-    })
-}
-
-// The command, if no word comes after it.
-fn ended(words: &mut Words<'_>, command: Command) -> Result<Command, Fault>
-    ensures { IfOk result (λ c. (c ≡ command) × Blank words.old.line.now words.old.at (length words.old.line.now)) }
-{
-    match words.next() {
-        None => Ok(command),
-        Some(_) => Err(Fault::Line(BadLine::TextAfter)),
-    }
-}
-
-/// What a line asks for.
-pub fn read_line(heap: Global, line: &[u8]) -> Result<Command, Fault>
+/// What a line asks for: nothing if it is blank or a comment.
+pub fn read_line(heap: Global, line: &[u8]) -> Result<Option<Command>, Fault>
     ensures { IfOk result (λ c. Says line.now c) }
 {
     if let [b'#', ..] = line {
-        return Ok(Command::Nothing);
+        return Ok(None);
     }
-    let mut words = Words::new(line);
-    let Some(word) = words.next() else {
-        return Ok(Command::Nothing);
+    let mut parser = Parser {
+        heap,
+        words: Words::new(line),
     };
-    match keyword_of(word) {
-        Keyword::Show => {
-            let command = shown(heap, &mut words)?;
-            ended(&mut words, command)
-        }
-        Keyword::Generate => {
-            let setup = generation(heap, &mut words)?;
-            ended(&mut words, Command::Generate(setup))
-        }
-        _ => Err(Fault::Line(BadLine::UnknownWord)),
+    let Some(word) = parser.words.next() else {
+        return Ok(None);
+    };
+    let command = parser.command(word)?;
+    match parser.words.next() {
+        None => Ok(Some(command)),
+        Some(_) => Err(Fault::Line(BadLine::TextAfter)),
     }
 }

@@ -1,4 +1,4 @@
-use Rattle.script.proofs.parse.+rule.Given as goal
+use Rattle.script.proofs.parse.Parser.+rule.Given as goal
 
 abbrev pub decreases-rule : goal.decreases-rule
 decreases-rule l = l.levels
