@@ -21,7 +21,7 @@ use std::alloc::{AllocError, Global};
 use std::io::{BufWriter, Read, Write};
 use std::process::ExitCode;
 use std::{env, fs, io};
-use synthesis::solved::{Found, Solved};
+use synthesis::solved::Found;
 use synthesis::solving::solve;
 use synthesis::state::State;
 use synthesis::workspace::Workspace;
@@ -199,9 +199,8 @@ fn generate<W: Write>(out: &mut W, heap: Global, setup: Setup) -> io::Result<()>
         setup.limit,
         &mut workspace,
     ) {
-        Solved::Found(found) => write_controller(out, found, &workspace.states, setup.situations),
-        Solved::NoneFound => write_refusal(out, Refusal::NoneFound),
-        Solved::Crowded => write_refusal(out, Refusal::Crowded),
+        Ok(found) => write_controller(out, found, &workspace.states, setup.situations),
+        Err(unsolved) => write_refusal(out, Refusal::from(unsolved)),
     }
 }
 
