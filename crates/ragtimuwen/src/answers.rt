@@ -17,7 +17,7 @@ use script::parse::{Command, Fault, Setup, Text};
 use std::alloc::{AllocError, Global};
 use std::io::Write;
 use std::{fs, io};
-use synthesis::solved::{Found, Solved};
+use synthesis::solved::Found;
 use synthesis::solving::solve;
 use synthesis::state::State;
 use synthesis::workspace::Workspace;
@@ -173,9 +173,8 @@ impl<'a, W: Write> Answers<'a, W> {
             setup.limit,
             &mut workspace,
         ) {
-            Solved::Found(found) => self.controller(found, &workspace.states, numbers),
-            Solved::NoneFound => self.refuse(Refusal::NoneFound),
-            Solved::Crowded => self.refuse(Refusal::Crowded),
+            Ok(found) => self.controller(found, &workspace.states, numbers),
+            Err(unsolved) => self.refuse(Refusal::from(unsolved)),
         }
     }
 

@@ -35,11 +35,11 @@ module _ (p : Page) (s : Sheet) (shows : Shows p s) where
   abbrev all : Automaton
   all = together (automaton p.table.arrows) (map meaning (vec_items p.added))
 
-  numbers : (all.situations ≡ p.table.arrows.situations) × (all.commands ≡ p.table.arrows.commands)
+  numbers : (all.situations ≡ p.table.arrows.numbers.situations) × (all.commands ≡ p.table.arrows.numbers.commands)
   numbers = numbers_stay (automaton p.table.arrows) (map meaning (vec_items p.added)) (all_alike (automaton p.table.arrows) (vec_items p.added) p.alike)
 
   -- the rules have the situations of the page
-  pub rules_situations : (rules s).situations ≡ p.table.arrows.situations
+  pub rules_situations : (rules s).situations ≡ p.table.arrows.numbers.situations
   rules_situations = sym (rules_agree p s shows).situations ∙ numbers.0
 
   -- solve comes to the same for the rules of the page
@@ -47,13 +47,13 @@ module _ (p : Page) (s : Sheet) (shows : Shows p s) where
   solved_as x e =
       let g = rules_agree p s shows in
       let n = numbers.1 in
-      let some-command : 0 < (rules s).commands = omega (arith, n, g.commands, p.table.some_commands) in
+      let some-command : 0 < (rules s).commands = omega (arith, n, g.commands, p.table.arrows.numbers.good.2) in
       let same : Positions.solve (rules s) s.capacity s.limit ≡ Positions.solve all p.capacity p.limit =
       ap {B = Solution} (λ c. Positions.solve (rules s) c s.limit) shows.capacity ∙ ap {B = Solution} (Positions.solve (rules s) p.capacity) shows.limit ∙ sym (solves_alike all (rules s) g some-command p.capacity p.limit) in
       ap {B = Outcome} (solve_with s) (same ∙ e)
 
   -- a frame of the controller that is kept
-  pub framed_as : (k : Stored) (x next given : ℕ) → p.stored ≡ Some k → x < p.table.arrows.situations
+  pub framed_as : (k : Stored) (x next given : ℕ) → p.stored ≡ Some k → x < p.table.arrows.numbers.situations
       → ((S : ℕ) → x < S → next ≡ get_or (get_or (map (row_of S) (take (k.found.states - 0) (vec_items p.workspace.states))) k.current no_row).nexts x 0)
       → ((S : ℕ) → given ≡ (get_or (map (row_of S) (take (k.found.states - 0) (vec_items p.workspace.states))) next no_row).command)
       → (f : Found) × (frame_on s x ≡ answers (with_stored s (some (record { found = f; current = next }))) (command given)) × Stores (rules s) f k.found (vec_items p.workspace.states)

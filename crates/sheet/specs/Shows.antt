@@ -22,8 +22,8 @@ Keeps s (Some k) states = (f : Found) × (s.stored ≡ some (record { found = f;
 -- the page stands for the sheet: the table answers as the house rule does, and the rest is the same
 pub record Shows (p : Page) (s : Sheet) : Type 0 where
   pub house : Agrees (automaton p.table.arrows) s.house
-  pub situations : s.situations ≡ p.table.arrows.situations
-  pub commands : s.commands ≡ p.table.arrows.commands
+  pub situations : s.situations ≡ p.table.arrows.numbers.situations
+  pub commands : s.commands ≡ p.table.arrows.numbers.commands
   pub capacity : s.capacity ≡ p.capacity
   pub added : map view (vec_items p.added) ≡ map filled s.added
   pub limit : s.limit ≡ p.limit

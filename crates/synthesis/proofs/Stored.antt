@@ -1,5 +1,5 @@
 -- The states that are stored are those of the controller found, and automata that agree have the same answer. Assumes nothing.
-use Rattle.std.proofs.Common.{◌≡◌, ℕ, zero, suc, ◌+◌, ◌*◌, ◌<◌, ◌≤◌, Bool, List, [], ◌∷◌, map, length, get_or, take, sym, refl, ap, ◌∙◌, arith}
+use Rattle.std.proofs.Common.{◌≡◌, ℕ, zero, suc, ◌+◌, ◌*◌, ◌<◌, ◌≤◌, Bool, List, [], ◌∷◌, map, length, get_or, take, Ok, Err, Result, sym, refl, ap, ◌∙◌, arith}
 use Rattle.std.specs.List.{range_with_len}
 use Rattle.std.proofs.lemmas.List.{length-map, length-take-le, get_or-take, take-map}
 use Rattle.model.specs.Automaton.{Automaton, Row}
@@ -7,8 +7,8 @@ use Rattle.model.specs.Positions.{Position, safe_part, command_at, states_met, r
 use Rattle.synthesis.specs.declared.position.Position.{Position as Slot}
 use Rattle.synthesis.specs.declared.state.State.{State}
 use Rattle.synthesis.specs.declared.solved.Found.{Found as Size}
-use Rattle.synthesis.specs.declared.solved.Solved.{Solved}
-use Rattle.synthesis.specs.declared.solved.Solved.TheVariants.{Found as FoundIt, NoneFound, Crowded}
+use Rattle.synthesis.specs.declared.solved.Unsolved.{Unsolved}
+use Rattle.synthesis.specs.declared.solved.Unsolved.TheVariants.{NoneFound, Crowded}
 use Rattle.synthesis.specs.Tables.{Agrees}
 use Rattle.synthesis.specs.Surveys.{shown}
 use Rattle.synthesis.specs.Control.{standing, Controlled}
@@ -87,10 +87,10 @@ module _ (A : Automaton) (c len : ℕ) (slots : List Slot) (safe : List Bool) (n
       }
 
 -- what is answered of a table is answered of the rules that it agrees with
-pub answered_alike : (A B : Automaton) → Agrees A B → 0 < B.commands → (capacity limit : ℕ) (r : Solved) (states : List State) → Answered A capacity limit r states → Answered B capacity limit r states
-answered_alike A B g some capacity limit Crowded states h = sym (solves_alike A B g some capacity limit) ∙ h
-answered_alike A B g some capacity limit NoneFound states h = sym (solves_alike A B g some capacity limit) ∙ h
-answered_alike A B g some capacity limit (FoundIt size) states h =
+pub answered_alike : (A B : Automaton) → Agrees A B → 0 < B.commands → (capacity limit : ℕ) (r : Result Size Unsolved) (states : List State) → Answered A capacity limit r states → Answered B capacity limit r states
+answered_alike A B g some capacity limit (Err Crowded) states h = sym (solves_alike A B g some capacity limit) ∙ h
+answered_alike A B g some capacity limit (Err NoneFound) states h = sym (solves_alike A B g some capacity limit) ∙ h
+answered_alike A B g some capacity limit (Ok size) states h =
     let f = h.0 in (
       f,
       sym (solves_alike A B g some capacity limit) ∙ h.1,

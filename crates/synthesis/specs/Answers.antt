@@ -1,13 +1,13 @@
 -- What solve answers, and what it stores.
-use Rattle.std.specs.Prelude.{◌≡◌, ℕ, ◌+◌, ◌*◌, ◌≤◌, List, [], map, length, take, slice_index, slice_index_or}
+use Rattle.std.specs.Prelude.{◌≡◌, ℕ, ◌+◌, ◌*◌, ◌≤◌, List, [], map, length, take, slice_index, slice_index_or, Ok, Err, Result}
 use Rattle.std.specs.List.{range_with_len}
 use Rattle.model.specs.Automaton.{Automaton, Row}
 use Rattle.model.specs.Positions.{Found, solve, found, none_found, too_crowded, command_at, safe_part}
 use Rattle.synthesis.specs.declared.position.Position.{Position as Stored}
 use Rattle.synthesis.specs.declared.state.State.{State}
 use Rattle.synthesis.specs.declared.solved.Found.{Found as Size}
-use Rattle.synthesis.specs.declared.solved.Solved.{Solved}
-use Rattle.synthesis.specs.declared.solved.Solved.TheVariants.{Found as FoundIt, NoneFound, Crowded}
+use Rattle.synthesis.specs.declared.solved.Unsolved.{Unsolved}
+use Rattle.synthesis.specs.declared.solved.Unsolved.TheVariants.{NoneFound, Crowded}
 use Rattle.synthesis.specs.Tables.{view}
 use Rattle.synthesis.specs.Surveys.{shown}
 
@@ -34,7 +34,7 @@ pub record Stores (A : Automaton) (f : Found) (size : Size) (states : List State
   pub positions : map (position_of A.states) (take size.states states) ≡ f.positions
 
 -- the answer is the definition's, and where a controller is found, it is stored
-abbrev pub Answered : Automaton → ℕ → ℕ → Solved → List State → Type 0
-Answered A capacity limit Crowded states = solve A capacity limit ≡ too_crowded
-Answered A capacity limit NoneFound states = solve A capacity limit ≡ none_found
-Answered A capacity limit (FoundIt size) states = (f : Found) × (solve A capacity limit ≡ found f) × Stores A f size states
+abbrev pub Answered : Automaton → ℕ → ℕ → Result Size Unsolved → List State → Type 0
+Answered A capacity limit (Err Crowded) states = solve A capacity limit ≡ too_crowded
+Answered A capacity limit (Err NoneFound) states = solve A capacity limit ≡ none_found
+Answered A capacity limit (Ok size) states = (f : Found) × (solve A capacity limit ≡ found f) × Stores A f size states

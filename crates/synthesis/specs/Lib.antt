@@ -3,3 +3,4 @@ pub mod Safety
 pub mod Surveys
 pub mod Control
 pub mod Answers
+pub mod Refused

@@ -3,12 +3,16 @@ use Rattle.std.specs.Prelude.{◌≡◌, ℕ, ◌+◌, ◌-◌, ◌<◌, ◌≤�
 use Rattle.model.specs.Automaton.{Automaton}
 use Rattle.model.specs.Positions.{mark, step, fits, solve}
 use Rattle.synthesis.specs.declared.arrows.Arrows.{Arrows}
+use Rattle.synthesis.specs.declared.arrows.Flags.{Flags}
 use Rattle.synthesis.specs.declared.arrows.Sources.{Sources}
 use Rattle.synthesis.specs.declared.arrows.Moves.{Moves}
 use Rattle.synthesis.specs.declared.arrows.Replies.{Replies}
 use Rattle.synthesis.specs.declared.position.Position.{Position}
 
 -- empty parts of a table, for reading past its ends
+abbrev pub no_flags : Flags
+no_flags = record { starts = false; rejects = false }
+
 abbrev pub no_sources : Sources
 no_sources = record { states = [] }
 
@@ -22,11 +26,11 @@ no_replies = record { moves = [] }
 abbrev pub automaton : Arrows → Automaton
 automaton a =
     record {
-      situations = a.situations;
-      commands = a.commands;
+      situations = a.numbers.situations;
+      commands = a.numbers.commands;
       states = a.states;
-      start = λ q. slice_index_or a.starts q false;
-      reject = λ q. slice_index_or a.rejects q false;
+      start = λ q. (slice_index_or a.flags q no_flags).starts;
+      reject = λ q. (slice_index_or a.flags q no_flags).rejects;
       follows = λ q u x p. slice_index_or (slice_index_or (slice_index_or (slice_index_or a.replies u no_replies).moves x no_moves).into p no_sources).states q false;
     }
 
@@ -57,9 +61,13 @@ pub record Agrees (A B : Automaton) : Type 0 where
 
 -- the rule has the table's numbers, and there is room for its states
 pub record Joins (a : Arrows) (B : Automaton) : Type 0 where
-  pub situations : B.situations ≡ a.situations
-  pub commands : B.commands ≡ a.commands
+  pub situations : B.situations ≡ a.numbers.situations
+  pub commands : B.commands ≡ a.numbers.commands
   pub room : a.states + B.states ≤ 16
+
+-- the flags of a state
+unfoldable pub flags_of : Automaton → ℕ → Flags
+flags_of A q = record { starts = A.start q; rejects = A.reject q }
 
 -- the parts of a table answer as the automaton does: what p follows, what each state follows, and that in each situation
 abbrev pub Into : Automaton → ℕ → ℕ → ℕ → Sources → Type 0

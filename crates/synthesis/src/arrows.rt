@@ -2,6 +2,17 @@
 
 ghost use Rattle.std.specs.Prelude.{◌≤◌};
 
+use rules::Numbers;
+
+/// Whether a state starts, and whether it is rejecting.
+#[derive(Clone, Copy)]
+pub struct Flags {
+    pub starts: bool,
+    pub rejects: bool,
+}
+
+// A struct for each row: a literal of a struct with an array of arrays in it gets no proof.
+
 /// Which states a state follows.
 #[derive(Clone, Copy)]
 pub struct Sources {
@@ -23,14 +34,10 @@ pub struct Replies {
 /// Rules side by side, as a table of which state follows which. The states count on from the first rule.
 #[derive(Clone, Copy)]
 pub struct Arrows {
-    pub situations: u8,
-    pub commands: u8,
+    pub numbers: Numbers,
     pub states: u8,
-    pub starts: [bool; 16],
-    pub rejects: [bool; 16],
+    pub flags: [Flags; 16],
     /// By command.
     pub replies: [Replies; 8],
-    ghost few_situations: { situations ≤ 8 },
-    ghost few_commands: { commands ≤ 8 },
     ghost few_states: { states ≤ 16 },
 }

@@ -1,12 +1,18 @@
 //! The table of rules side by side, made by asking each rule each question once.
 
-ghost use Rattle.std.specs.Prelude.{◌≡◌, ℕ, ◌+◌, ◌<◌, ◌≤◌, false, map, slice_index_or};
+ghost use Rattle.std.specs.Prelude.{◌≡◌, ℕ, ◌+◌, ◌<◌, ◌≤◌, map, slice_index_or};
 ghost use Rattle.std.specs.List.{AllByRecursion};
-ghost use Rattle.model.specs.Rules.{beside as side_by_side, together};
-ghost use Rattle.synthesis.specs.Tables.{automaton, Agrees, Alike, Joins, Into, Moving, Replying, SolvesAlike};
+ghost use Rattle.model.specs.Rules.{beside as rule_beside, together};
+ghost use Rattle.synthesis.specs.Tables.{automaton, Agrees, Alike, Joins, no_flags, no_replies, flags_of, Into, Moving, Replying, SolvesAlike};
 
-use crate::arrows::{Arrows, Moves, Replies, Sources};
-use rules::Rule;
+use crate::arrows::{Arrows, Flags, Moves, Replies, Sources};
+use rules::{Numbers, Rule};
+use std::array;
+
+const NO_FLAGS: Flags = Flags {
+    starts: false,
+    rejects: false,
+};
 
 const NO_SOURCES: Sources = Sources {
     states: [false; 16],
@@ -20,160 +26,140 @@ const NO_REPLIES: Replies = Replies {
     moves: [NO_MOVES; 8],
 };
 
-/// The table of no rule.
-fn empty(situations: u8, commands: u8) -> Arrows
-    requires few { (situations ≤ 8) × (commands ≤ 8) }
-    ensures situations { result.situations ≡ situations }
-    ensures commands { result.commands ≡ commands }
-    ensures states { result.states ≡ 0 }
-{
-    Arrows {
-        situations,
-        commands,
-        states: 0,
-        starts: [false; 16],
-        rejects: [false; 16],
-        replies: [NO_REPLIES; 8],
+impl Arrows {
+    /// The table of no rule.
+    fn empty(numbers: Numbers) -> Arrows
+        ensures numbers { result.numbers ≡ numbers }
+        ensures states { result.states ≡ 0 }
+    {
+        Arrows {
+            numbers,
+            states: 0,
+            flags: [NO_FLAGS; 16],
+            replies: [NO_REPLIES; 8],
+        }
     }
-}
 
-/// Whether the follower follows the state, with the rule beside those of the table.
-fn follows<R: Rule>(
-    arrows: &Arrows,
-    rule: &R,
-    state: u8,
-    command: u8,
-    situation: u8,
-    follower: u8,
-) -> bool
-    requires joins { Joins arrows.now (R.Rule.meaning rule.now) }
-    requires known_command { command < arrows.now.commands }
-    requires known_situation { situation < arrows.now.situations }
-    requires known_states { (state < arrows.now.states + (R.Rule.meaning rule.now).states) × (follower < arrows.now.states + (R.Rule.meaning rule.now).states) }
-    ensures { result ≡ (side_by_side (automaton arrows.now) (R.Rule.meaning rule.now)).follows state command situation follower }
-{
-    let n = arrows.states;
-    if state < n {
-        follower < n
-            && arrows.replies[command as usize].moves[situation as usize].into[follower as usize].states[state as usize]
-    } else {
-        follower >= n && rule.follows(state - n, command, situation, follower - n)
+    /// Whether the state follows: the table's answer.
+    pub fn follows(&self, state: u8, command: u8, situation: u8, follower: u8) -> bool
+        requires known_command { command < self.now.numbers.commands }
+        requires known_situation { situation < self.now.numbers.situations }
+        requires known_states { (state < self.now.states) × (follower < self.now.states) }
+        ensures { result ≡ (automaton self.now).follows state command situation follower }
+    {
+        self.replies[command as usize].moves[situation as usize].into[follower as usize].states[state as usize]
     }
-}
 
-/// What the follower follows.
-fn sources<R: Rule>(arrows: &Arrows, rule: &R, command: u8, situation: u8, follower: u8) -> Sources
-    requires joins { Joins arrows.now (R.Rule.meaning rule.now) }
-    requires known_command { command < arrows.now.commands }
-    requires known_situation { situation < arrows.now.situations }
-    requires known_follower { follower < arrows.now.states + (R.Rule.meaning rule.now).states }
-    ensures { Into (side_by_side (automaton arrows.now) (R.Rule.meaning rule.now)) command situation follower result }
-{
-    let mut states = [false; 16];
-    for state in 0..arrows.states + rule.states() {
-        states[state as usize] = follows(arrows, rule, state, command, situation, follower);
+    /// Whether the follower follows the state, with the rule beside those of the table. False, where one of the numbers is too large.
+    fn follows_beside<R: Rule>(
+        &self,
+        rule: &R,
+        state: u8,
+        command: u8,
+        situation: u8,
+        follower: u8,
+    ) -> bool
+        requires joins { Joins self.now (R.Rule.meaning rule.now) }
+        ensures { command < self.now.numbers.commands → situation < self.now.numbers.situations → state < self.now.states + (R.Rule.meaning rule.now).states → follower < self.now.states + (R.Rule.meaning rule.now).states → result ≡ (rule_beside (automaton self.now) (R.Rule.meaning rule.now)).follows state command situation follower }
+    {
+        let n = self.states;
+        let all = n + rule.states();
+        if command >= self.numbers.commands
+            || situation >= self.numbers.situations
+            || state >= all
+            || follower >= all
+        {
+            return false;
+        }
+        if state < n {
+            follower < n && self.follows(state, command, situation, follower)
+        } else {
+            follower >= n && rule.follows(state - n, command, situation, follower - n)
+        }
     }
-    Sources { states }
-}
 
-/// The moves under a command in a situation.
-fn moves<R: Rule>(arrows: &Arrows, rule: &R, command: u8, situation: u8) -> Moves
-    requires joins { Joins arrows.now (R.Rule.meaning rule.now) }
-    requires known_command { command < arrows.now.commands }
-    requires known_situation { situation < arrows.now.situations }
-    ensures { Moving (side_by_side (automaton arrows.now) (R.Rule.meaning rule.now)) command situation result }
-{
-    let mut into = [NO_SOURCES; 16];
-    for follower in 0..arrows.states + rule.states() {
-        into[follower as usize] = sources(arrows, rule, command, situation, follower);
+    /// What the follower follows, with the rule beside those of the table.
+    fn sources<R: Rule>(&self, rule: &R, command: u8, situation: u8, follower: u8) -> Sources
+        requires joins { Joins self.now (R.Rule.meaning rule.now) }
+        ensures { command < self.now.numbers.commands → situation < self.now.numbers.situations → follower < self.now.states + (R.Rule.meaning rule.now).states → Into (rule_beside (automaton self.now) (R.Rule.meaning rule.now)) command situation follower result }
+    {
+        let states = array::from_fn(|state| {
+            self.follows_beside(rule, state as u8, command, situation, follower)
+        });
+        Sources { states }
     }
-    Moves { into }
-}
 
-/// The moves under a command in every situation.
-fn replies<R: Rule>(arrows: &Arrows, rule: &R, command: u8) -> Replies
-    requires joins { Joins arrows.now (R.Rule.meaning rule.now) }
-    requires known_command { command < arrows.now.commands }
-    ensures { Replying (side_by_side (automaton arrows.now) (R.Rule.meaning rule.now)) command result }
-{
-    let mut all = [NO_MOVES; 8];
-    for situation in 0..arrows.situations {
-        all[situation as usize] = moves(arrows, rule, command, situation);
+    /// The moves under a command in a situation.
+    fn moves<R: Rule>(&self, rule: &R, command: u8, situation: u8) -> Moves
+        requires joins { Joins self.now (R.Rule.meaning rule.now) }
+        ensures { command < self.now.numbers.commands → situation < self.now.numbers.situations → Moving (rule_beside (automaton self.now) (R.Rule.meaning rule.now)) command situation result }
+    {
+        let into = array::from_fn(|follower| self.sources(
+            rule,
+            command,
+            situation,
+            follower as u8,
+        ));
+        Moves { into }
     }
-    Replies { moves: all }
-}
 
-/// Whether the state starts.
-fn is_start<R: Rule>(arrows: &Arrows, rule: &R, state: u8) -> bool
-    requires joins { Joins arrows.now (R.Rule.meaning rule.now) }
-    requires known_state { state < arrows.now.states + (R.Rule.meaning rule.now).states }
-    ensures { result ≡ (side_by_side (automaton arrows.now) (R.Rule.meaning rule.now)).start state }
-{
-    let n = arrows.states;
-    if state < n {
-        arrows.starts[state as usize]
-    } else {
-        rule.starts(state - n)
+    /// The moves under a command in every situation.
+    fn replies<R: Rule>(&self, rule: &R, command: u8) -> Replies
+        requires joins { Joins self.now (R.Rule.meaning rule.now) }
+        ensures { command < self.now.numbers.commands → Replying (rule_beside (automaton self.now) (R.Rule.meaning rule.now)) command result }
+    {
+        let moves = array::from_fn(|situation| self.moves(rule, command, situation as u8));
+        Replies { moves }
     }
-}
 
-/// Which states start.
-fn starts<R: Rule>(arrows: &Arrows, rule: &R) -> [bool; 16]
-    requires joins { Joins arrows.now (R.Rule.meaning rule.now) }
-    ensures { (q : ℕ) → q < arrows.now.states + (R.Rule.meaning rule.now).states → slice_index_or result q false ≡ (side_by_side (automaton arrows.now) (R.Rule.meaning rule.now)).start q }
-{
-    let mut all = [false; 16];
-    for state in 0..arrows.states + rule.states() {
-        all[state as usize] = is_start(arrows, rule, state);
+    /// The moves under every command.
+    fn all_replies<R: Rule>(&self, rule: &R) -> [Replies; 8]
+        requires joins { Joins self.now (R.Rule.meaning rule.now) }
+        ensures { (u : ℕ) → u < self.now.numbers.commands → Replying (rule_beside (automaton self.now) (R.Rule.meaning rule.now)) u (slice_index_or result u no_replies) }
+    {
+        array::from_fn(|command| self.replies(rule, command as u8))
     }
-    all
-}
 
-/// Whether the state is rejecting.
-fn is_rejecting<R: Rule>(arrows: &Arrows, rule: &R, state: u8) -> bool
-    requires joins { Joins arrows.now (R.Rule.meaning rule.now) }
-    requires known_state { state < arrows.now.states + (R.Rule.meaning rule.now).states }
-    ensures { result ≡ (side_by_side (automaton arrows.now) (R.Rule.meaning rule.now)).reject state }
-{
-    let n = arrows.states;
-    if state < n {
-        arrows.rejects[state as usize]
-    } else {
-        rule.rejects(state - n)
+    /// Whether a state starts and is rejecting, with the rule beside those of the table. Neither, behind the last state.
+    fn flags_beside<R: Rule>(&self, rule: &R, state: u8) -> Flags
+        requires joins { Joins self.now (R.Rule.meaning rule.now) }
+        ensures { state < self.now.states + (R.Rule.meaning rule.now).states → result ≡ flags_of (rule_beside (automaton self.now) (R.Rule.meaning rule.now)) state }
+    {
+        let n = self.states;
+        if state < n {
+            self.flags[state as usize]
+        } else if state - n < rule.states() {
+            Flags {
+                starts: rule.starts(state - n),
+                rejects: rule.rejects(state - n),
+            }
+        } else {
+            NO_FLAGS
+        }
     }
-}
 
-/// Which states are rejecting.
-fn rejects<R: Rule>(arrows: &Arrows, rule: &R) -> [bool; 16]
-    requires joins { Joins arrows.now (R.Rule.meaning rule.now) }
-    ensures { (q : ℕ) → q < arrows.now.states + (R.Rule.meaning rule.now).states → slice_index_or result q false ≡ (side_by_side (automaton arrows.now) (R.Rule.meaning rule.now)).reject q }
-{
-    let mut all = [false; 16];
-    for state in 0..arrows.states + rule.states() {
-        all[state as usize] = is_rejecting(arrows, rule, state);
+    /// Which states start, and which are rejecting.
+    fn all_flags<R: Rule>(&self, rule: &R) -> [Flags; 16]
+        requires joins { Joins self.now (R.Rule.meaning rule.now) }
+        ensures { (q : ℕ) → q < self.now.states + (R.Rule.meaning rule.now).states → slice_index_or result q no_flags ≡ flags_of (rule_beside (automaton self.now) (R.Rule.meaning rule.now)) q }
+    {
+        array::from_fn(|state| self.flags_beside(rule, state as u8))
     }
-    all
-}
 
-/// The rules of the table, and one more beside them.
-fn beside<R: Rule>(arrows: &Arrows, rule: &R) -> Arrows
-    requires joins { Joins arrows.now (R.Rule.meaning rule.now) }
-    ensures agrees { Agrees (automaton result) (side_by_side (automaton arrows.now) (R.Rule.meaning rule.now)) }
-    ensures some { 0 < result.states }
-{
-    let mut all = [NO_REPLIES; 8];
-    for command in 0..arrows.commands {
-        all[command as usize] = replies(arrows, rule, command);
-    }
-    let starts = starts(arrows, rule);
-    let rejects = rejects(arrows, rule);
-    Arrows {
-        situations: arrows.situations,
-        commands: arrows.commands,
-        states: arrows.states + rule.states(),
-        starts,
-        rejects,
-        replies: all,
+    /// The rules of the table, and one more beside them.
+    fn beside<R: Rule>(&self, rule: &R) -> Arrows
+        requires joins { Joins self.now (R.Rule.meaning rule.now) }
+        ensures agrees { Agrees (automaton result) (rule_beside (automaton self.now) (R.Rule.meaning rule.now)) }
+        ensures some { 0 < result.states }
+    {
+        let flags = self.all_flags(rule);
+        let replies = self.all_replies(rule);
+        Arrows {
+            numbers: self.numbers,
+            states: self.states + rule.states(),
+            flags,
+            replies,
+        }
     }
 }
 
@@ -183,18 +169,16 @@ pub fn gather<R: Rule, T: Rule>(house: &R, added: &[T]) -> Arrows
     requires alike { AllByRecursion (Alike (R.Rule.meaning house.now)) (map T.Rule.meaning added.now) }
     requires room { (together (R.Rule.meaning house.now) (map T.Rule.meaning added.now)).states ≤ 16 }
     ensures agrees { Agrees (automaton result) (together (R.Rule.meaning house.now) (map T.Rule.meaning added.now)) }
-    ensures some { (0 < result.situations) × (0 < result.commands) × (0 < result.states) }
+    ensures some { 0 < result.states }
 {
-    let mut arrows = beside(&empty(house.situations(), house.commands()), house);
+    let mut arrows = Arrows::empty(Numbers::of(house)).beside(house);
     for rule in added {
-        arrows = beside(&arrows, rule);
+        arrows = arrows.beside(rule);
     }
     arrows
 }
 
 /// Where a table agrees with rules, solve comes to the same for both.
-pub fn agreement_stands() -> u8
+pub fn agreement_stands()
     ensures { SolvesAlike }
-{
-    0
-}
+{}

@@ -3,7 +3,7 @@
 ghost use Rattle.std.specs.Prelude.{◌*◌, ◌<◌, ◌≤◌, length};
 
 use crate::arrows::Arrows;
-use crate::pruning::Numbers;
+use rules::Numbers;
 
 /// The positions of rules side by side, with their steps not over c.
 #[derive(Clone, Copy)]

@@ -11,7 +11,8 @@ ghost use Rattle.synthesis.specs.Control.{onward, Controlled};
 use crate::arrows::Arrows;
 use crate::graphs::Chosen;
 use crate::position::Position;
-use crate::pruning::{Numbers, lowest_command};
+use crate::pruning::lowest_command;
+use rules::Numbers;
 use search::breadth_first::explore;
 use search::graph::Graph;
 
@@ -106,13 +107,16 @@ pub fn control<'a>(
     requires rows { (len * 64 ≤ length links.now) × (len * 8 ≤ length nexts.old) }
     ensures { Controlled (automaton arrows.now) met.now len safe.now result places.new nexts.new }
 {
-    let numbers = Numbers {
-        commands: arrows.commands,
-        situations: arrows.situations,
-    };
     let safe = &safe[0..len];
     let room = count(safe);
-    match number(numbers, links, safe, &mut places[0..room], waiting, nexts) {
+    match number(
+        arrows.numbers,
+        links,
+        safe,
+        &mut places[0..room],
+        waiting,
+        nexts,
+    ) {
         Some(n) => n,
         None => unreachable(),
     }

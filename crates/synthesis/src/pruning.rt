@@ -6,14 +6,7 @@
 ghost use Rattle.std.specs.Prelude.{◌≡◌, ℕ, ◌*◌, ◌<◌, ◌≤◌, true, false, length, Decides, MatchOption};
 ghost use Rattle.synthesis.specs.Safety.{flag, Holding, Keeping, Closed, Widest, Safest, trues, lowest_kept};
 
-/// How many commands and situations there are.
-#[derive(Clone, Copy)]
-pub struct Numbers {
-    pub commands: u8,
-    pub situations: u8,
-    ghost few_commands: { commands ≤ 8 },
-    ghost few_situations: { situations ≤ 8 },
-}
+use rules::Numbers;
 
 /// Whether the place is in the set.
 pub fn is_safe(safe: &[bool], place: usize) -> bool

@@ -11,7 +11,7 @@ use crate::gathering::gather;
 use crate::numbering::control;
 use crate::position::Position;
 use crate::pruning::is_safe;
-use crate::solved::{Found, Solved};
+use crate::solved::{Found, Unsolved};
 use crate::state::State;
 use crate::storing::store;
 use crate::surveying::survey;
@@ -30,7 +30,7 @@ fn solve_table(
     waiting_places: &mut [u16],
     nexts: &mut [u16],
     states: &mut [State],
-) -> Solved
+) -> Result<Found, Unsolved>
     requires low { limit < 254 }
     requires room { (0 < length met.old) × ((length met.old ≤ 65535) × ((length met.old ≤ length waiting.old) × (length met.old ≤ length safe.old))) }
     requires state_room { (length met.old ≤ length places.old) × ((length met.old ≤ length waiting_places.old) × (length met.old ≤ length states.old)) }
@@ -39,7 +39,7 @@ fn solve_table(
 {
     for c in 0..limit + 1 {
         let Some(len) = survey(arrows, c, met, waiting, links, safe) else {
-            return Solved::Crowded;
+            return Err(Unsolved::Crowded);
         };
         if len > 0 && is_safe(safe, 0) {
             let count = control(
@@ -56,13 +56,13 @@ fn solve_table(
             store(
                 arrows, c, met, len, links, safe, places, nexts, count, states,
             );
-            return Solved::Found(Found {
+            return Ok(Found {
                 count: c,
                 states: count,
             });
         }
     }
-    Solved::NoneFound
+    Err(Unsolved::NoneFound)
 }
 
 /// Looks for a controller of the least count for the house rule and the added rules side by side, and stores its states in the
@@ -73,7 +73,7 @@ pub fn solve<R: Rule, T: Rule>(
     capacity: usize,
     limit: u8,
     workspace: &mut Workspace,
-) -> Solved
+) -> Result<Found, Unsolved>
     requires alike { AllByRecursion (Alike (R.Rule.meaning house.now)) (map T.Rule.meaning added.now) }
     requires room { (together (R.Rule.meaning house.now) (map T.Rule.meaning added.now)).states ≤ 16 }
     requires capacity { (1 ≤ capacity) × (capacity ≤ 1024) }

@@ -14,7 +14,7 @@ fn weight(arrows: &Arrows, state: usize) -> u8
     ensures value { result ≡ weight_of (automaton arrows.now) state }
     ensures bound { result ≤ 1 }
 {
-    if arrows.rejects[state] { 1 } else { 0 }
+    if arrows.flags[state].rejects { 1 } else { 0 }
 }
 
 /// The mark of a state at the start.
@@ -22,7 +22,7 @@ fn first_mark(arrows: &Arrows, state: usize) -> u8
     requires { state < arrows.now.states }
     ensures { result ≡ first_mark (automaton arrows.now) state }
 {
-    if arrows.starts[state] {
+    if arrows.flags[state].starts {
         1 + weight(arrows, state)
     } else {
         0
@@ -55,8 +55,8 @@ fn largest_before(
     position: &Position,
     follower: usize,
 ) -> u8
-    requires known_command { command < arrows.now.commands }
-    requires known_situation { situation < arrows.now.situations }
+    requires known_command { command < arrows.now.numbers.commands }
+    requires known_situation { situation < arrows.now.numbers.situations }
     requires known_follower { follower < arrows.now.states }
     ensures { result ≡ largest (mark_before (automaton arrows.now) command situation (view arrows.now.states position.now) follower) arrows.now.states }
 {
@@ -72,8 +72,8 @@ fn largest_before(
 
 /// The largest mark that a state is handed by those that it follows.
 fn handed(arrows: &Arrows, command: u8, situation: u8, position: &Position, follower: usize) -> u16
-    requires known_command { command < arrows.now.commands }
-    requires known_situation { situation < arrows.now.situations }
+    requires known_command { command < arrows.now.numbers.commands }
+    requires known_situation { situation < arrows.now.numbers.situations }
     requires known_follower { follower < arrows.now.states }
     ensures { result ≡ largest (mark_handed (automaton arrows.now) command situation (view arrows.now.states position.now) follower) arrows.now.states }
 {
@@ -93,8 +93,8 @@ pub fn step(
     situation: u8,
     position: &Position,
 ) -> Option<Position>
-    requires known_command { command < arrows.now.commands }
-    requires known_situation { situation < arrows.now.situations }
+    requires known_command { command < arrows.now.numbers.commands }
+    requires known_situation { situation < arrows.now.numbers.situations }
     requires low { c < 255 }
     ensures { result ≡ stepped (automaton arrows.now) c command situation (view arrows.now.states position.now) }
 {

@@ -11,7 +11,7 @@ ghost use Rattle.synthesis.specs.Answers.{StandsAt, row_of, position_of};
 
 use crate::arrows::Arrows;
 use crate::position::Position;
-use crate::pruning::{Numbers, lowest_command};
+use crate::pruning::lowest_command;
 use crate::state::State;
 
 /// The lowest command that stays in the safe set, at a safe place.
@@ -29,11 +29,7 @@ fn command_at(
     requires room { (length met.now ≤ 65535) × ((len ≤ length met.now) × ((len ≤ length safe.now) × (len * 64 ≤ length links.now))) }
     ensures { result ≡ command_at (automaton arrows.now) (safe_part (automaton arrows.now) (shown (automaton arrows.now) len met.now)) (slice_index_or (shown (automaton arrows.now) len met.now) place []) }
 {
-    let numbers = Numbers {
-        commands: arrows.commands,
-        situations: arrows.situations,
-    };
-    match lowest_command(numbers, links, &safe[0..len], place) {
+    match lowest_command(arrows.numbers, links, &safe[0..len], place) {
         Some(command) => command,
         None => unreachable(),
     }

@@ -8,7 +8,7 @@ ghost use Rattle.synthesis.specs.Surveys.{candidate, Reached, Surveyed};
 use crate::arrows::Arrows;
 use crate::graphs::Positions;
 use crate::position::Position;
-use crate::pruning::{Numbers, safe_part};
+use crate::pruning::safe_part;
 use crate::stepping::{fits, start, step};
 use search::breadth_first::explore;
 use search::graph::Graph;
@@ -45,7 +45,7 @@ impl Graph for Positions<'_> {
     fn successor(&self, node: &Position, i: usize) -> Option<Position> {
         let command = (i / 8) as u8;
         let situation = (i % 8) as u8;
-        if command < self.arrows.commands && situation < self.arrows.situations {
+        if command < self.arrows.numbers.commands && situation < self.arrows.numbers.situations {
             step(self.arrows, self.c, command, situation, node)
         } else {
             None
@@ -88,10 +88,6 @@ pub fn survey(
     ensures { Surveyed (automaton arrows.now) c (length met.old) result met.new links.new safe.new }
 {
     let len = reach(arrows, c, met, waiting, links)?;
-    let numbers = Numbers {
-        commands: arrows.commands,
-        situations: arrows.situations,
-    };
-    safe_part(numbers, links, &mut safe[0..len]);
+    safe_part(arrows.numbers, links, &mut safe[0..len]);
     Some(len)
 }

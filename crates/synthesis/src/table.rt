@@ -9,12 +9,10 @@ use crate::arrows::Arrows;
 use crate::gathering::gather;
 use rules::Rule;
 
-/// A rule that answers from a table. It has at least one situation, one command and one state.
+/// A rule that answers from a table. It has at least one state.
 #[derive(Clone, Copy)]
 pub struct RuleTable {
     pub arrows: Arrows,
-    ghost some_situations: { 1 ≤ arrows.situations },
-    ghost some_commands: { 1 ≤ arrows.commands },
     ghost some_states: { 1 ≤ arrows.states },
 }
 
@@ -34,11 +32,11 @@ impl Rule for RuleTable {
     ghost meaning = { λ t. automaton t.arrows };
 
     fn situations(&self) -> u8 {
-        self.arrows.situations
+        self.arrows.numbers.situations
     }
 
     fn commands(&self) -> u8 {
-        self.arrows.commands
+        self.arrows.numbers.commands
     }
 
     fn states(&self) -> u8 {
@@ -46,15 +44,14 @@ impl Rule for RuleTable {
     }
 
     fn starts(&self, state: u8) -> bool {
-        self.arrows.starts[state as usize]
+        self.arrows.flags[state as usize].starts
     }
 
     fn rejects(&self, state: u8) -> bool {
-        self.arrows.rejects[state as usize]
+        self.arrows.flags[state as usize].rejects
     }
 
     fn follows(&self, state: u8, command: u8, situation: u8, follower: u8) -> bool {
-        self.arrows
-            .replies[command as usize].moves[situation as usize].into[follower as usize].states[state as usize]
+        self.arrows.follows(state, command, situation, follower)
     }
 }

@@ -1,6 +1,5 @@
 //! Solve on small rules.
 
-use super::solved::Solved;
 use super::solving::solve;
 use super::workspace::Workspace;
 use rules::{Free, Reply};
@@ -9,7 +8,7 @@ use std::test::Fail;
 #[test]
 fn answers_one_touch_late(rt: HostRuntime) -> Result<(), Fail> {
     let mut workspace = Workspace::new(rt.alloc())?;
-    let Solved::Found(found) = solve(
+    let Ok(found) = solve(
         &Reply::new(2, 2, 1, 1),
         &[Free::new(2, 2)],
         64,

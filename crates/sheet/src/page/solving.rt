@@ -7,7 +7,6 @@ use crate::page::Page;
 use crate::page::framing::command_at;
 use crate::stored::{Solution, Stored};
 use model::refusal::Refusal;
-use synthesis::solved::Solved;
 use synthesis::solving::solve;
 
 impl Page {
@@ -16,24 +15,19 @@ impl Page {
         ensures { Does self.old solve_call (solution result) self.new }
     {
         self.stored = None;
-        match solve(
+        let found = solve(
             &self.table,
             self.added.as_slice(),
             self.capacity as usize,
             self.limit,
             &mut self.workspace,
-        ) {
-            Solved::Found(found) => {
-                self.stored = Some(Stored { found, current: 0 });
-                let len = found.states;
-                Ok(Solution {
-                    count: found.count,
-                    states: len,
-                    command: command_at(&self.workspace.states.as_slice()[0..len], 0),
-                })
-            }
-            Solved::NoneFound => Err(Refusal::NoneFound),
-            Solved::Crowded => Err(Refusal::Crowded),
-        }
+        )?;
+        self.stored = Some(Stored { found, current: 0 });
+        let states = found.states;
+        Ok(Solution {
+            count: found.count,
+            states,
+            command: command_at(&self.workspace.states.as_slice()[0..states], 0),
+        })
     }
 }

@@ -1,8 +1,9 @@
-use Rattle.std.proofs.Common.{map, sym, ◌∙◌, subst, arith}
+use Rattle.std.proofs.Common.{map, sym, ap, ◌∙◌, subst, arith}
 use Rattle.std.proofs.lemmas.List.{take_all}
 use Rattle.model.specs.Rules.{beside, together}
+use Rattle.rules.specs.declared.numbers.Numbers.{Numbers}
 use Rattle.synthesis.specs.Tables.{automaton, Agrees}
-use Rattle.synthesis.proofs.Gathered.{agrees_trans, agrees_none, joins_next, agrees_next, grows_from, numbers_stay}
+use Rattle.synthesis.proofs.Gathered.{agrees_trans, agrees_none, joins_next, agrees_next, grows_from}
 use Rattle.synthesis.proofs.gathering.gather.Goals as goal
 
 pub beside-arrows-requires : goal.beside-arrows-requires
@@ -11,7 +12,13 @@ beside-arrows-requires g c =
     let n = c.empty.ensures in
     let a = n.states in
     let r = grows_from H (map g.T.Rule.meaning c.args.added.now) in
-    record { joins = record { situations = sym (n.situations ∙ c.situations.ensures.value); commands = sym (n.commands ∙ c.commands.ensures.value); room = omega (arith, a, r, c.requires.room) } }
+    record {
+      joins = record {
+        situations = sym (ap (λ (m : Numbers). m.situations) n.numbers ∙ c.of.ensures.situations);
+        commands = sym (ap (λ (m : Numbers). m.commands) n.numbers ∙ c.of.ensures.commands);
+        room = omega (arith, a, r, c.requires.room);
+      };
+    }
 
 pub beside-arrows-requires-in-loop-rule : goal.beside-arrows-requires-in-loop-rule
 beside-arrows-requires-in-loop-rule g c =
@@ -25,7 +32,8 @@ loop-rule-init g c =
     let H = g.R.Rule.meaning c.args.house.now in
     let n = c.empty.ensures in (
       agrees_trans (automaton c.beside-arrows.result) (beside (automaton c.empty.result) H) H c.beside-arrows.ensures.agrees
-          (agrees_none (automaton c.empty.result) H (n.situations ∙ c.situations.ensures.value) (n.commands ∙ c.commands.ensures.value) n.states),
+          (agrees_none (automaton c.empty.result) H (ap (λ (m : Numbers). m.situations) n.numbers ∙ c.of.ensures.situations)
+          (ap (λ (m : Numbers). m.commands) n.numbers ∙ c.of.ensures.commands) n.states),
       c.beside-arrows.ensures.some,
     )
 
@@ -42,12 +50,4 @@ returns g c =
     let all = map g.T.Rule.meaning c.args.added.now in
     let agrees : Agrees (automaton c.loop-rule.arrows) (together H all) =
     subst (λ xs. Agrees (automaton c.loop-rule.arrows) (together H (map g.T.Rule.meaning xs))) (take_all c.loop-rule.rule-index c.args.added.now (omega arith)) c.loop-rule.invariant.0 in
-    let stay = numbers_stay H all c.requires.alike in
-    record {
-      agrees = agrees;
-      some = (
-        omega (arith, agrees.situations, stay.0, c.situations.ensures.value, c.situations.ensures.range.0),
-        omega (arith, agrees.commands, stay.1, c.commands.ensures.value, c.commands.ensures.range.0),
-        c.loop-rule.invariant.1,
-      );
-    }
+    record { agrees = agrees; some = c.loop-rule.invariant.1 }

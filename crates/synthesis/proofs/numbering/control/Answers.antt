@@ -43,7 +43,7 @@ returns c =
     let k = sized len room safe c.args.places.now (omega arith) (omega arith) c.count-room.ensures.value c.count-room.ensures.bound c.requires.start.0 c.requires.start.1 in
     let z : len - 0 ≡ len = omega arith in
     let go = λ (l : ℕ). onward A.commands A.situations links (take l safe) in
-    controlled A c.args.c (length c.args.met.now) len c.args.met.now links safe (omega arith) (omega arith) c.args.arrows.now.few_situations c.requires.surveyed (omega arith) c.requires.start.0 c.requires.start.1
+    controlled A c.args.c (length c.args.met.now) len c.args.met.now links safe (omega arith) (omega arith) c.args.arrows.now.numbers.good.1 c.requires.surveyed (omega arith) c.requires.start.0 c.requires.start.1
     n part (post_of 0 (room - 0) c.args.places.now) c.number.new.nexts
     (c.number.auto.places ∙ k.3)
     (subst (λ r. Found (Some n) part (reached_from eqb (successors 8 (go len)) r 0)) k.3
@@ -60,6 +60,6 @@ unreachable-requires c =
     let k = sized len room safe c.args.places.now (omega arith) (omega arith) c.count-room.ensures.value c.count-room.ensures.bound c.requires.start.0 c.requires.start.1 in
     let z : len - 0 ≡ len = omega arith in
     let go = λ (l : ℕ). onward A.commands A.situations links (take l safe) in
-    never_crowded A c.args.c (length c.args.met.now) len c.args.met.now links safe (omega arith) (omega arith) c.args.arrows.now.few_situations c.requires.surveyed (omega arith) c.requires.start.0 c.requires.start.1
+    never_crowded A c.args.c (length c.args.met.now) len c.args.met.now links safe (omega arith) (omega arith) c.args.arrows.now.numbers.good.1 c.requires.surveyed (omega arith) c.requires.start.0 c.requires.start.1
     (subst (λ r. reached_from eqb (successors 8 (go len)) r 0 ≡ none) k.3
     (subst (λ l. reached_from eqb (successors 8 (go l)) (length (take (room - 0) c.args.places.now)) 0 ≡ none) z c.in-None.ensures.places))

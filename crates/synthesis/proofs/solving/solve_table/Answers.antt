@@ -32,7 +32,7 @@ returns-then-is_safe c =
     sym (start_told A room at len met links safe (omega (arith, within, c.survey.auto.met, c.loop-c.auto.met)) s (omega arith)) ∙ sym c.if-is_safe.ensures in (
       found_in A at (safe_part A L),
       sym c.loop-c.invariant ∙ try_found A room c.args.limit at L (omega arith) s.0.1 m,
-      stores A at len met safe c.control-count.result c.control-count.new.places c.control-count.new.nexts c.args.arrows.now.few_situations c.control-count.ensures
+      stores A at len met safe c.control-count.result c.control-count.new.places c.control-count.new.nexts c.args.arrows.now.numbers.good.1 c.control-count.ensures
           (omega (arith, within, c.control-count.auto.places, c.loop-c.auto.places)) c.store.new.states (omega (arith, within, c.store.auto.states, c.loop-c.auto.states)) c.store.ensures
           (record { count = at; states = c.control-count.result }) refl refl,
     )

@@ -26,19 +26,19 @@ solve-requires c =
       limit = c.args.self.now.low_limit;
     }
 
-pub returns-in-Found : goal.returns-in-Found
-returns-in-Found c s shows =
+pub returns : goal.returns
+returns c s shows =
     let p = c.args.self.now in
     let H = automaton p.table.arrows in
     let v = c.as_slice.ensures.value in
-    let size = c.in-Found.found in
+    let size = c.in_ok-found.found in
     let states = vec_items c.solve.new.workspace.states in
-    let (f, e, st) = c.in-Found.ensures in
+    let (f, e, st) = c.in_ok-found.ensures in
     let e' = subst (λ (w : List ReadRule). Positions.solve (together H (map meaning w)) p.capacity p.limit ≡ found f) v e in
     let st' = stores_alike _ (rules s) f size states (rules_agree p s shows) (subst (λ (w : List ReadRule). Stores (together H (map meaning w)) f size states) v st) in
     let S = (rules s).situations in
     let gives : c.command_at.result ≡ (row_in f 0).command =
-    c.command_at.ensures S ∙ ap {B = ℕ} (λ (w : List State). (get_or (map (row_of S) (take (size.states - 0) w)) 0 no_row).command) c.as_slice-in-Found.ensures.value
+    c.command_at.ensures S ∙ ap {B = ℕ} (λ (w : List State). (get_or (map (row_of S) (take (size.states - 0) w)) 0 no_row).command) c.as_slice-2.ensures.value
     ∙ ap {B = ℕ} (λ n. (get_or (map (row_of S) (take n states)) 0 no_row).command) (let z : size.states - 0 ≡ size.states = omega arith in z)
     ∙ ap {B = ℕ} (λ r. (get_or r 0 no_row).command) st'.rows in
     let is = solved_as p s shows (found f) e'
@@ -56,16 +56,7 @@ returns-in-Found c s shows =
       stored = (f, refl, st');
     })
 
-pub returns-in-NoneFound : goal.returns-in-NoneFound
-returns-in-NoneFound c s shows =
+pub returns-in_err-found : goal.returns-in_err-found
+returns-in_err-found c s shows =
     let p = c.args.self.now in
-    let e = subst (λ (w : List ReadRule). Positions.solve (together (automaton p.table.arrows) (map meaning w)) p.capacity p.limit ≡ none_found) c.as_slice.ensures.value c.in-NoneFound.ensures in
-    outcome _ _ _ _ (solved_as p s shows none_found e)
-    (record { house = shows.house; situations = shows.situations; commands = shows.commands; capacity = shows.capacity; added = shows.added; limit = shows.limit; stored = refl })
-
-pub returns-in-Crowded : goal.returns-in-Crowded
-returns-in-Crowded c s shows =
-    let p = c.args.self.now in
-    let e = subst (λ (w : List ReadRule). Positions.solve (together (automaton p.table.arrows) (map meaning w)) p.capacity p.limit ≡ too_crowded) c.as_slice.ensures.value c.in-Crowded.ensures in
-    outcome _ _ _ _ (solved_as p s shows too_crowded e)
-    (record { house = shows.house; situations = shows.situations; commands = shows.commands; capacity = shows.capacity; added = shows.added; limit = shows.limit; stored = refl })
+    ?

@@ -1,7 +1,0 @@
-use Rattle.std.proofs.Common.{◌≡◌, ℕ, ◌<◌, false, length, get_or}
-use Rattle.model.specs.Rules.{beside}
-use Rattle.synthesis.specs.Tables.{automaton}
-use Rattle.synthesis.proofs.gathering.rejects.Given as goal
-
-abbrev pub invariant-loop-state : goal.invariant-loop-state
-invariant-loop-state g l = (length l.all ≡ 16) × ((k : ℕ) → k < l.state → get_or l.all k false ≡ (beside (automaton l.arrows) (g.R.Rule.meaning l.rule)).reject k)
