@@ -2,7 +2,7 @@ pub mod Bytes
 pub mod Unrolled
 pub mod Loops
 pub mod Stepping
-pub mod Adding
+pub mod Same
 pub mod Meeting
 pub mod Holding
 pub mod Going

@@ -1,5 +1,5 @@
 -- The text, line by line.
-use Rattle.std.proofs.Common.{◌≡◌, ℕ, zero, suc, ◌+◌, ◌<◌, ◌≤◌, Bool, true, not, List, [], ◌∷◌, length, drop, sym, refl, ap, ◌∙◌, subst, add-one, arith, length-append, length-drop}
+use Rattle.std.proofs.Common.{◌≡◌, ℕ, zero, suc, ◌+◌, ◌<◌, ◌≤◌, true, not, List, [], ◌∷◌, length, drop, sym, refl, ap, ◌∙◌, subst, add-one, arith, length-append, length-drop}
 use mathlib.Core.Option.{Option, none, some}
 use Rattle.model.specs.declared.fault.LineFault.{LineFault}
 use Rattle.model.specs.declared.fault.LineFault.TheVariants.{Word, Order, Range}
@@ -10,6 +10,8 @@ use Rattle.model.specs.Reading.{Part, part, wrong, first_line, SoFar, nothing, o
 use Rattle.model.proofs.Reading.Parts.{line_exact}
 use Rattle.ruletext.specs.declared.so_far.SoFar.{SoFar as Far}
 use Rattle.ruletext.specs.declared.so_far.SoFar.TheVariants as far
+use Rattle.ruletext.specs.declared.table.StateSet.{StateSet}
+use Rattle.ruletext.specs.Tables.{ArrowTable}
 use Rattle.ruletext.specs.Standing.{Standing, Clear, stated, on, off, step, Taken, going, stopped, take_line}
 
 -- ONE LINE
@@ -85,7 +87,7 @@ module _ (S C turns line : ℕ) (m : SoFar) (b : ℕ) (bs : List ℕ) where
   line_stopped f e = by_line ∙ ap after e
 
 -- between two lines: what is left to read, from how far the lines have come
-pub record Lining (S C : ℕ) (text : List ℕ) (far : Far) (line : ℕ) (rest : List ℕ) (rejecting arrows : List Bool) : Type 0 where
+pub record Lining (S C : ℕ) (text : List ℕ) (far : Far) (line : ℕ) (rest : List ℕ) (rejecting : StateSet) (arrows : ArrowTable) : Type 0 where
   pub come : SoFar
   pub turns : ℕ
   pub enough : length rest ≤ turns
@@ -94,17 +96,17 @@ pub record Lining (S C : ℕ) (text : List ℕ) (far : Far) (line : ℕ) (rest :
   pub counted : 1 ≤ line
   pub short : line + length rest ≤ 1 + length text
 
-pub lining_start : (S C : ℕ) (text : List ℕ) (rejecting arrows : List Bool) → Clear rejecting arrows → Lining S C text far.Nothing 1 text rejecting arrows
+pub lining_start : (S C : ℕ) (text : List ℕ) (rejecting : StateSet) (arrows : ArrowTable) → Clear rejecting arrows → Lining S C text far.Nothing 1 text rejecting arrows
 lining_start S C text rejecting arrows clear =
     record { come = nothing; turns = length text; enough = omega arith; place = refl; standing = (refl, clear); counted = omega arith; short = omega arith }
 
-pub standing_small : (S C : ℕ) (far : Far) (rejecting arrows : List Bool) (m : SoFar) → Standing S C far rejecting arrows m → stated far ≤ 8
+pub standing_small : (S C : ℕ) (far : Far) (rejecting : StateSet) (arrows : ArrowTable) (m : SoFar) → Standing S C far rejecting arrows m → stated far ≤ 8
 standing_small S C far.Nothing rejecting arrows m s = omega arith
 standing_small S C (far.Named name) rejecting arrows m s = omega arith
 standing_small S C (far.Sized name size) rejecting arrows m s = s.4
 standing_small S C (far.Full name size) rejecting arrows m s = let d = s.2 in let c = d.counts in let k = d.ranged.counted in omega (arith, k.1)
 
-module _ (S C : ℕ) (text : List ℕ) (far : Far) (line : ℕ) (rest : List ℕ) (rejecting arrows : List Bool) (t : Lining S C text far line rest rejecting arrows) where
+module _ (S C : ℕ) (text : List ℕ) (far : Far) (line : ℕ) (rest : List ℕ) (rejecting : StateSet) (arrows : ArrowTable) (t : Lining S C text far line rest rejecting arrows) where
   more : (r : List ℕ) (n : ℕ) → rest ≡ r → t.turns ≡ n → 0 < length rest → (taken : Taken) → take_line S C line t.come rest ≡ taken
       → (k : ℕ) × (suc k ≡ t.turns) × (b : ℕ) × (bs : List ℕ) × (rest ≡ b ∷ bs)
   more [] n e f h taken d = let z = ap length e in absurd (omega arith)
@@ -121,7 +123,7 @@ module _ (S C : ℕ) (text : List ℕ) (far : Far) (line : ℕ) (rest : List ℕ
       t.place ∙ ap (λ n. read_lines S C n line t.come rest) (sym s.1) ∙ ap (λ z. read_lines S C (suc k) line t.come z) s.4
       ∙ line_stopped S C k line t.come b bs f (subst (λ z. take_line S C line t.come z ≡ stopped f) s.4 e)
 
-  pub lining_more : (next : Far) (rejecting' arrows' : List Bool) (j : ℕ) (m : SoFar) → 0 < length rest → 0 < j → j ≤ length rest
+  pub lining_more : (next : Far) (rejecting' : StateSet) (arrows' : ArrowTable) (j : ℕ) (m : SoFar) → 0 < length rest → 0 < j → j ≤ length rest
       → take_line S C line t.come rest ≡ going m (drop j rest) → Standing S C next rejecting' arrows' m
       → Lining S C text next (line + 1) (drop j rest) rejecting' arrows'
   lining_more next rejecting' arrows' j m h hj hl e standing =

@@ -1,7 +1,8 @@
 -- The loop over digits: those read so far, and what their words are.
-use Rattle.std.proofs.Common.{◌≡◌, ℕ, suc, ◌+◌, ◌-◌, ◌*◌, ◌<◌, ◌≤◌, true, eqb, ◌⊎◌, List, [], ◌∷◌, ◌++◌, length, get_or, take, drop, sym, refl, ap, ◌∙◌, inl, inr, ⊎_elim, append_assoc, append-nil, add-zero, arith, length-append}
+use Rattle.std.proofs.Common.{◌≡◌, ℕ, suc, ◌+◌, ◌-◌, ◌*◌, ◌/◌, ◌<◌, ◌≤◌, true, eqb, ◌⊎◌, List, [], ◌∷◌, ◌++◌, length, get_or, take, drop, sym, refl, ap, ◌∙◌, inl, inr, ⊎_elim, append_assoc, append-nil, add-zero, arith, length-append}
 use Rattle.std.proofs.lemmas.Bool.{ne_eqb, eqb-true, eq-eqb}
 use Rattle.std.proofs.lemmas.List.{drop_more, drop_all, take_at, get_or-drop}
+use Rattle.std.specs.Simd.{first_chunks}
 use Rattle.model.specs.Lists.{every, joined}
 use Rattle.model.specs.Text.{Line, n_line, name_byte, one_digit, digit_word}
 use Rattle.model.specs.Reading.{Part, part, wrong, ◌>>=◌, given, byte, digit, digits, name_rest, n_words}
@@ -28,9 +29,16 @@ pub words_length : (ds : List ℕ) → length (joined digit_word ds) ≡ 2 * len
 words_length [] = refl
 words_length (d ∷ ds) = let ih = words_length ds in omega arith
 
-states_are : (ds : List ℕ) → states_of (joined digit_word ds) ≡ ds
-states_are [] = refl
-states_are (d ∷ ds) = let e : d + 48 - 48 ≡ d = omega arith in ap (λ z. z ∷ states_of (joined digit_word ds)) e ∙ ap (λ z. d ∷ z) (states_are ds)
+states_from : (ds : List ℕ) → states_of (first_chunks 2 (length ds) (joined digit_word ds)) ≡ ds
+states_from [] = refl
+states_from (d ∷ ds) =
+    let e : d + 48 - 48 ≡ d = omega arith in
+    ap (λ z. z ∷ states_of (first_chunks 2 (length ds) (joined digit_word ds))) e ∙ ap (λ z. d ∷ z) (states_from ds)
+
+pub states_are : (ds : List ℕ) → states_of (first_chunks 2 (length (joined digit_word ds) / 2) (joined digit_word ds)) ≡ ds
+states_are ds =
+    let half : length (joined digit_word ds) / 2 ≡ length ds = omega (arith, words_length ds) in
+    ap (λ k. states_of (first_chunks 2 k (joined digit_word ds))) half ∙ states_from ds
 
 module _ (line : List ℕ) (start at : ℕ) (t : Through line start at) where
   pub through_more : (d next : ℕ) → digit at (drop at line) ≡ part d next (drop next line) → Through line start next
@@ -60,7 +68,7 @@ module _ (line : List ℕ) (start at : ℕ) (t : Through line start at) where
       wrong_on k (digits_wrong (drop at line) at k (omega arith) (ne_eqb (get_or (drop at line) 0 0) 10 (λ z. n (sym first ∙ z))) e)
 
   pub through_end : (b end : ℕ) → byte (λ c. eqb 10 c) at (drop at line) ≡ part b end (drop end line)
-      → digits start (drop start line) ≡ part (states_of (take (at - start) (drop start line))) end (drop end line)
+      → digits start (drop start line) ≡ part (states_of (first_chunks 2 (length (take (at - start) (drop start line)) / 2) (take (at - start) (drop start line)))) end (drop end line)
   through_end b end e =
       let s = byte_takes (λ c. eqb 10 c) at (drop at line) b end (drop end line) e in
       let is = eqb-true 10 b s.passed in
@@ -69,7 +77,8 @@ module _ (line : List ℕ) (start at : ℕ) (t : Through line start at) where
       ap (λ z. digits at z) last ∙ digits_end at (drop end line) ∙ ap (λ z. part [] z (drop end line)) (sym s.count) in
       let words : take (at - start) (drop start line) ≡ joined digit_word t.found =
       ap (λ z. take (at - start) z) t.split ∙ take_at (joined digit_word t.found) (drop at line) (at - start) (omega (arith, words_length t.found, t.count)) in
-      let same : t.found ++ [] ≡ states_of (take (at - start) (drop start line)) = append-nil t.found ∙ sym (states_are t.found) ∙ ap states_of (sym words) in
+      let same : t.found ++ [] ≡ states_of (first_chunks 2 (length (take (at - start) (drop start line)) / 2) (take (at - start) (drop start line))) =
+      append-nil t.found ∙ sym (states_are t.found) ∙ ap (λ z. states_of (first_chunks 2 (length z / 2) z)) (sym words) in
       here ∙ ap (λ o. behind t.found o) d ∙ ap (λ z. part z end (drop end line)) same
 
   pub through_none : (k : ℕ) → (length line ≤ at) ⊎ (get_or line at 0 ≡ 10) → byte (λ c. eqb 10 c) at (drop at line) ≡ wrong k → digits start (drop start line) ≡ wrong k

@@ -1,5 +1,5 @@
 -- The lines of the code as lines of the model.
-use Rattle.std.specs.Prelude.{ℕ, ◌-◌, List, [], ◌∷◌}
+use Rattle.std.specs.Prelude.{ℕ, ◌-◌, List, map, slice_index_or}
 use Rattle.std.specs.Borrow.{Bor}
 use Rattle.model.specs.Text.{Arrows as Stated, Choice, one, each, Line, n_line, s_line, r_line, t_line}
 use Rattle.model.specs.Reading.{Reader, letter, byte, words, ◌>>=◌}
@@ -18,14 +18,16 @@ picked Each = each
 abbrev pub size_line : Size → Line
 size_line s = s_line s.states s.start
 
--- the states whose words these bytes are: a space and a digit for each
-abbrev pub states_of : List ℕ → List ℕ
-states_of [] = []
-states_of (a ∷ []) = []
-states_of (a ∷ d ∷ rest) = (d - 48) ∷ states_of rest
+-- the digit of a word, which is a space and a digit
+abbrev pub digit_of : List ℕ → ℕ
+digit_of word = slice_index_or word 1 0 - 48
 
-abbrev pub states_in : Bor (List ℕ) → List ℕ
-states_in s = states_of s.now
+-- the states that the words name
+abbrev pub states_of : List (List ℕ) → List ℕ
+states_of words = map digit_of words
+
+abbrev pub states_in : Bor (List (List ℕ)) → List ℕ
+states_in words = states_of words.now
 
 abbrev pub rejects_line : Rejects → Line
 rejects_line r = r_line (states_in r.states)

@@ -1,5 +1,5 @@
 -- How far the lines of a text have come, as the code and as the model have it.
-use Rattle.std.specs.Prelude.{◌≡◌, ℕ, ◌<◌, ◌≤◌, Bool, false, not, List, length, drop, Some, None, Ok, Err, Result, slice_index_or}
+use Rattle.std.specs.Prelude.{◌≡◌, ℕ, ◌<◌, ◌≤◌, not, List, length, drop, false, Some, None, Ok, Err, Result}
 use Rattle.std.proofs.Math.Option.{none, some}
 use Rattle.model.specs.declared.fault.LineFault.{LineFault}
 use Rattle.model.specs.declared.fault.LineFault.TheVariants.{Word, Order, Range}
@@ -10,24 +10,25 @@ use Rattle.model.specs.Reading.{SoFar, nothing, named, sized, full, onward, stat
 use Rattle.model.specs.ReadingLaws.{Correct, Ranged}
 use Rattle.ruletext.specs.declared.so_far.SoFar.{SoFar as Far}
 use Rattle.ruletext.specs.declared.so_far.SoFar.TheVariants as far
+use Rattle.ruletext.specs.declared.table.StateSet.{StateSet}
 use Rattle.ruletext.specs.Ranges.{first_outside}
-use Rattle.ruletext.specs.Tables.{place}
+use Rattle.ruletext.specs.Tables.{ArrowTable, has_state, arrow}
 
 -- no state is marked, and no arrow
-abbrev pub Clear : List Bool → List Bool → Type 0
-Clear rejecting arrows = ((k : ℕ) → slice_index_or rejecting k false ≡ false) × ((k : ℕ) → slice_index_or arrows k false ≡ false)
+abbrev pub Clear : StateSet → ArrowTable → Type 0
+Clear rejecting arrows = ((k : ℕ) → has_state rejecting k ≡ false) × ((q u x p : ℕ) → arrow arrows q u x p ≡ false)
 
 -- name, number of states, start state and tables are those of a rule in range
-pub record Drafted (S C : ℕ) (name : List ℕ) (states start : ℕ) (rejecting arrows : List Bool) (r : TextRule) : Type 0 where
+pub record Drafted (S C : ℕ) (name : List ℕ) (states start : ℕ) (rejecting : StateSet) (arrows : ArrowTable) (r : TextRule) : Type 0 where
   pub names : r.name ≡ name
   pub counts : r.states ≡ states
   pub starts : r.start ≡ start
-  pub rejects : (q : ℕ) → slice_index_or rejecting q false ≡ among r.rejecting q
-  pub leads : (q u x p : ℕ) → q < 8 → u < 8 → x < 8 → p < 8 → slice_index_or arrows (place q u x p) false ≡ any (has_arrow S C q u x p) r.arrows
+  pub rejects : (q : ℕ) → has_state rejecting q ≡ among r.rejecting q
+  pub leads : (q u x p : ℕ) → q < 8 → u < 8 → x < 8 → p < 8 → arrow arrows q u x p ≡ any (has_arrow S C q u x p) r.arrows
   pub ranged : Ranged S C r
 
 -- what the code has of the lines so far is what the model has
-abbrev pub Standing : ℕ → ℕ → Far → List Bool → List Bool → SoFar → Type 0
+abbrev pub Standing : ℕ → ℕ → Far → StateSet → ArrowTable → SoFar → Type 0
 Standing S C far.Nothing rejecting arrows m = (m ≡ nothing) × Clear rejecting arrows
 Standing S C (far.Named name) rejecting arrows m = (m ≡ named name.now) × Clear rejecting arrows × Correct (n_line name.now)
 Standing S C (far.Sized name size) rejecting arrows m =
@@ -57,7 +58,7 @@ step S C line m l =
     ]
 
 -- the code's answer to one more line, with the tables then, is the model's
-abbrev pub Steps : ℕ → ℕ → ℕ → SoFar → Line → List Bool → List Bool → Result Far LineFault → Type 0
+abbrev pub Steps : ℕ → ℕ → ℕ → SoFar → Line → StateSet → ArrowTable → Result Far LineFault → Type 0
 Steps S C line m l rejecting arrows (Ok next) = (m' : SoFar) × (step S C line m l ≡ on m') × Standing S C next rejecting arrows m'
 Steps S C line m l rejecting arrows (Err f) = step S C line m l ≡ off f
 
@@ -79,13 +80,13 @@ take_line S C line m bytes =
     ]
 
 -- the code's answer to the bytes of one more line, with the tables then, is the model's: it takes a byte or more
-abbrev pub Takes : ℕ → ℕ → ℕ → SoFar → List ℕ → List Bool → List Bool → Result (Far × ℕ) LineFault → Type 0
+abbrev pub Takes : ℕ → ℕ → ℕ → SoFar → List ℕ → StateSet → ArrowTable → Result (Far × ℕ) LineFault → Type 0
 Takes S C line m bytes rejecting arrows (Ok v) =
     (m' : SoFar) × (take_line S C line m bytes ≡ going m' (drop v.1 bytes)) × Standing S C v.0 rejecting arrows m'
 Takes S C line m bytes rejecting arrows (Err f) = take_line S C line m bytes ≡ stopped f
 
 -- the code's answer to all lines is the model's, up to what is looked at behind the last
-abbrev pub TakesAll : ℕ → ℕ → List ℕ → List Bool → List Bool → Result (Far × ℕ) LineFault → Type 0
+abbrev pub TakesAll : ℕ → ℕ → List ℕ → StateSet → ArrowTable → Result (Far × ℕ) LineFault → Type 0
 TakesAll S C bytes rejecting arrows (Ok v) =
     (m : SoFar) × (read_lines S C (length bytes) 1 nothing bytes ≡ at_end S C v.1 m) × Standing S C v.0 rejecting arrows m
 TakesAll S C bytes rejecting arrows (Err f) = read_lines S C (length bytes) 1 nothing bytes ≡ faulty (OfLine f)

@@ -1,7 +1,10 @@
 //! The lines of a text, word by word.
 
+ghost use Rattle.std.specs.Prelude.{◌≡◌};
 ghost use Rattle.model.specs.Reading.{byte as model_byte, letter as model_letter, n_words, digit as model_digit, choice as model_choice, digits as model_digits, s_words, r_words, t_words};
 ghost use Rattle.ruletext.specs.Tokens.{Reads, same, name_line};
+ghost use Rattle.ruletext.specs.Ranges.{below};
+ghost use Rattle.ruletext.specs.Tables.{taken};
 ghost use Rattle.ruletext.specs.Lines.{picked, size_line, states_in, rejects_line, arrows_line, line_of, line_reader};
 
 use crate::token::{Class, Due, Token, byte, word};
@@ -14,6 +17,28 @@ pub enum Choice {
     Each,
 }
 
+impl Choice {
+    /// Whether a digit is below `n`; `*` always is.
+    pub fn is_below(self, n: u8) -> bool
+        ensures { result ≡ below n (picked self) }
+    {
+        match self {
+            Choice::One(d) => d < n,
+            Choice::Each => true,
+        }
+    }
+
+    /// Whether a number is the digit; each is one that `*` takes.
+    pub fn takes(self, n: u8) -> bool
+        ensures { result ≡ taken (picked self) n }
+    {
+        match self {
+            Choice::One(d) => d == n,
+            Choice::Each => true,
+        }
+    }
+}
+
 /// The words of an s line.
 #[derive(Clone, Copy)]
 pub struct Size {
@@ -24,7 +49,7 @@ pub struct Size {
 /// The states of an r line: the part of the text with their words.
 #[derive(Clone, Copy)]
 pub struct Rejects<'a> {
-    pub states: &'a [u8],
+    pub states: &'a [[u8; 2]],
 }
 
 /// The words of a t line; the states that follow are the part of the text with their words.
@@ -33,7 +58,7 @@ pub struct Arrows<'a> {
     pub from: u8,
     pub command: Choice,
     pub situation: Choice,
-    pub to: &'a [u8],
+    pub to: &'a [[u8; 2]],
 }
 
 /// A line; the name of an n line is its part of the text.
@@ -108,7 +133,7 @@ fn size_words(text: &[u8], line: usize, at: usize) -> Result<(Size, usize), Word
 }
 
 // Any number of digits up to the line end: the part of the text with their words.
-fn digits<'a>(text: &'a [u8], line: usize, at: usize) -> Result<(&'a [u8], usize), WordFault>
+fn digits<'a>(text: &'a [u8], line: usize, at: usize) -> Result<(&'a [[u8; 2]], usize), WordFault>
     ensures { Reads model_digits states_in text.now line at result }
 {
     let start = at;
@@ -118,7 +143,8 @@ fn digits<'a>(text: &'a [u8], line: usize, at: usize) -> Result<(&'a [u8], usize
         end = next;
     }
     let (_, behind) = byte(text, line, end, Class::End)?;
-    Ok((&text[start..end], behind))
+    let (words, _) = text[start..end].as_chunks::<2>();
+    Ok((words, behind))
 }
 
 // The words of an r line, and its end.

@@ -3,7 +3,7 @@
 ghost use Rattle.std.specs.Prelude.{◌≡◌, ℕ, ◌<◌, ◌≤◌, true, false, length, take, slice_index_or};
 ghost use Rattle.model.specs.Text.{good_name};
 ghost use Rattle.model.specs.ReadingLaws.{AllReached};
-ghost use Rattle.ruletext.specs.Tables.{automaton, Within};
+ghost use Rattle.ruletext.specs.Tables.{automaton, has_state, Within};
 
 use crate::table::Table;
 
@@ -26,7 +26,7 @@ pub struct ReadRule {
     ghost commanded: { (0 < states → (1 ≤ commands) × (commands ≤ 8)) },
     ghost counted: { (0 < states → (states ≤ 8) × (start < states)) },
     ghost named: { (0 < states → (letters ≤ 8) × (good_name (take letters name) ≡ true)) },
-    ghost rejects: { (0 < states → (q : ℕ) → slice_index_or table.rejecting q false ≡ true → q < states) },
+    ghost rejects: { (0 < states → (q : ℕ) → has_state table.rejecting q ≡ true → q < states) },
     ghost leads: { (0 < states → ∥ Within situations commands states table.arrows ∥₁) },
     ghost reached: { (0 < states → ∥ AllReached (automaton situations commands states start table.rejecting table.arrows) ∥₁) },
 }

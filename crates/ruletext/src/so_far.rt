@@ -1,17 +1,19 @@
 //! How far the lines of a text have come: n, s and r once each, in this order, before all t lines.
 
 ghost use Rattle.std.specs.Prelude.{◌≡◌, ℕ, ◌+◌, ◌*◌, ◌^◌, ◌<◌, ◌≤◌, Bool, true, false, ◌||◌, List, length, slice_index_or};
-ghost use Rattle.model.specs.Text.{among, correct, has_arrow, line_bytes, numbers, state_numbers};
+ghost use Rattle.model.specs.Text.{among, correct, has_arrow, line_bytes, numbers as line_numbers, state_numbers};
 ghost use Rattle.model.specs.Reading.{SoFar as Model};
 ghost use Rattle.ruletext.specs.Lines.{states_in, line_of, arrows_line, arrows_of};
 ghost use Rattle.ruletext.specs.Ranges.{first_outside};
-ghost use Rattle.ruletext.specs.Tables.{Adds};
+ghost use Rattle.ruletext.specs.Tables.{ArrowTable, Adds, has_state};
+ghost use Rattle.ruletext.specs.declared.table.StateSet.{StateSet};
 ghost use Rattle.ruletext.specs.Standing.{Standing, Steps, Held, stated};
 
 use crate::line::{Arrows, Line, Rejects, Size};
 use crate::range::{outside, outside_arrows, outside_size};
-use crate::table::{Table, connect, mark};
+use crate::table::Table;
 use model::fault::LineFault;
+use rules::Numbers;
 
 /// The parts of the rule so far, but for its tables.
 #[derive(Clone, Copy)]
@@ -29,14 +31,14 @@ fn add_rejecting(
     line: usize,
     table: &mut Table,
 ) -> Result<(), LineFault>
-    requires { (states ≤ 8) × (2 + 2 * length (states_in rejects.states) < 2 ^ 64) }
-    ensures held { Held line (state_numbers states 2 (states_in rejects.entry.states)) ((q : ℕ) → slice_index_or table.new.rejecting q false ≡ (slice_index_or table.old.rejecting q false || among (states_in rejects.entry.states) q)) result }
+    requires { states ≤ 8 }
+    ensures held { Held line (state_numbers states 2 (states_in rejects.entry.states)) ((q : ℕ) → has_state table.new.rejecting q ≡ (has_state table.old.rejecting q || among (states_in rejects.entry.states) q)) result }
     ensures same { table.new.arrows ≡ table.old.arrows }
 {
     if let Some(byte) = outside(rejects.states, states, 2) {
         return Err(LineFault::Range { line, byte });
     }
-    mark(&mut table.rejecting, 0, rejects.states);
+    table.rejecting.add(rejects.states);
     Ok(())
 }
 
@@ -45,24 +47,23 @@ fn add_arrows(
     arrows: Arrows,
     states: u8,
     line: usize,
-    situations: u8,
-    commands: u8,
+    numbers: Numbers,
     table: &mut Table,
 ) -> Result<(), LineFault>
-    requires { (states ≤ 8) × ((situations ≤ 8) × ((commands ≤ 8) × (8 + 2 * length (states_in arrows.to) < 2 ^ 64))) }
-    ensures held { Held line (numbers situations commands states (arrows_line arrows.entry)) (Adds table.old.arrows table.new.arrows (λ q u x p. has_arrow situations commands q u x p (arrows_of arrows.entry))) result }
+    requires { states ≤ 8 }
+    ensures held { Held line (line_numbers numbers.situations numbers.commands states (arrows_line arrows.entry)) (Adds table.old.arrows table.new.arrows (λ q u x p. has_arrow numbers.situations numbers.commands q u x p (arrows_of arrows.entry))) result }
     ensures same { table.new.rejecting ≡ table.old.rejecting }
 {
-    if let Some(byte) = outside_arrows(arrows, states, situations, commands) {
+    if let Some(byte) = outside_arrows(arrows, states, numbers) {
         return Err(LineFault::Range { line, byte });
     }
-    connect(&mut table.arrows, arrows, situations, commands);
+    table.connect(arrows, numbers);
     Ok(())
 }
 
 // The line that comes first: an n line.
 fn name_line<'a>(words: Line<'a>, line: usize) -> Result<SoFar<'a>, LineFault>
-    ensures { (S C : ℕ) (rejecting arrows : List Bool) (m : Model) → correct (line_of words.entry) ≡ true → Standing S C SoFar.Nothing rejecting arrows m → Steps S C line m (line_of words.entry) rejecting arrows result }
+    ensures { (S C : ℕ) (rejecting : StateSet) (arrows : ArrowTable) (m : Model) → correct (line_of words.entry) ≡ true → Standing S C SoFar.Nothing rejecting arrows m → Steps S C line m (line_of words.entry) rejecting arrows result }
 {
     match words {
         Line::Name(name) => Ok(SoFar::Named(name)),
@@ -72,7 +73,7 @@ fn name_line<'a>(words: Line<'a>, line: usize) -> Result<SoFar<'a>, LineFault>
 
 // The line behind the n line: an s line.
 fn size_line<'a>(name: &'a [u8], words: Line<'a>, line: usize) -> Result<SoFar<'a>, LineFault>
-    ensures { (S C : ℕ) (rejecting arrows : List Bool) (m : Model) → Standing S C (SoFar.Named name.entry) rejecting arrows m → Steps S C line m (line_of words.entry) rejecting arrows result }
+    ensures { (S C : ℕ) (rejecting : StateSet) (arrows : ArrowTable) (m : Model) → Standing S C (SoFar.Named name.entry) rejecting arrows m → Steps S C line m (line_of words.entry) rejecting arrows result }
 {
     let Line::Size(size) = words else {
         return Err(LineFault::Order { line });
@@ -91,7 +92,7 @@ fn rejecting_line<'a>(
     line: usize,
     table: &mut Table,
 ) -> Result<SoFar<'a>, LineFault>
-    requires { (size.states ≤ 8) × (length (line_bytes (line_of words)) ≤ 4096) }
+    requires { size.states ≤ 8 }
     ensures { (S C : ℕ) (m : Model) → Standing S C (SoFar.Sized name.entry size) table.old.rejecting table.old.arrows m → Steps S C line m (line_of words.entry) table.new.rejecting table.new.arrows result }
 {
     let Line::Rejects(rejects) = words else {
@@ -108,17 +109,16 @@ fn arrow_line<'a>(
     size: Size,
     words: Line<'a>,
     line: usize,
-    situations: u8,
-    commands: u8,
+    numbers: Numbers,
     table: &mut Table,
 ) -> Result<SoFar<'a>, LineFault>
-    requires { (size.states ≤ 8) × ((situations ≤ 8) × ((commands ≤ 8) × (length (line_bytes (line_of words)) ≤ 4096))) }
-    ensures { (m : Model) → Standing situations commands (SoFar.Full name.entry size) table.old.rejecting table.old.arrows m → Steps situations commands line m (line_of words.entry) table.new.rejecting table.new.arrows result }
+    requires { size.states ≤ 8 }
+    ensures { (m : Model) → Standing numbers.situations numbers.commands (SoFar.Full name.entry size) table.old.rejecting table.old.arrows m → Steps numbers.situations numbers.commands line m (line_of words.entry) table.new.rejecting table.new.arrows result }
 {
     let Line::Arrows(arrows) = words else {
         return Err(LineFault::Order { line });
     };
-    add_arrows(arrows, size.states, line, situations, commands, table)?;
+    add_arrows(arrows, size.states, line, numbers, table)?;
     Ok(SoFar::Full(name, size))
 }
 
@@ -127,19 +127,16 @@ pub fn with_line<'a>(
     so_far: SoFar<'a>,
     words: Line<'a>,
     line: usize,
-    situations: u8,
-    commands: u8,
+    numbers: Numbers,
     table: &mut Table,
 ) -> Result<SoFar<'a>, LineFault>
-    requires { (stated so_far ≤ 8) × ((situations ≤ 8) × ((commands ≤ 8) × (length (line_bytes (line_of words)) ≤ 4096))) }
-    ensures { (m : Model) → correct (line_of words.entry) ≡ true → Standing situations commands so_far.entry table.old.rejecting table.old.arrows m → Steps situations commands line m (line_of words.entry) table.new.rejecting table.new.arrows result }
+    requires { stated so_far ≤ 8 }
+    ensures { (m : Model) → correct (line_of words.entry) ≡ true → Standing numbers.situations numbers.commands so_far.entry table.old.rejecting table.old.arrows m → Steps numbers.situations numbers.commands line m (line_of words.entry) table.new.rejecting table.new.arrows result }
 {
     match so_far {
         SoFar::Nothing => name_line(words, line),
         SoFar::Named(name) => size_line(name, words, line),
         SoFar::Sized(name, size) => rejecting_line(name, size, words, line, table),
-        SoFar::Full(name, size) => {
-            arrow_line(name, size, words, line, situations, commands, table)
-        }
+        SoFar::Full(name, size) => { arrow_line(name, size, words, line, numbers, table) }
     }
 }

@@ -5,7 +5,7 @@ ghost use Rattle.model.specs.Text.{rule_meaning, blank};
 ghost use Rattle.ruletext.specs.View.{view, name_of, is_blank};
 
 use crate::rule::ReadRule;
-use crate::table::{Table, place_of};
+use crate::table::Table;
 use rules::Rule;
 
 impl ReadRule {
@@ -65,13 +65,13 @@ impl Rule for ReadRule {
         if self.states == 0 {
             return false;
         }
-        self.table.rejecting[state as usize]
+        self.table.rejecting.contains(state)
     }
 
     fn follows(&self, state: u8, command: u8, situation: u8, follower: u8) -> bool {
         if self.states == 0 {
             return true;
         }
-        self.table.arrows[place_of(state, command, situation, follower)]
+        self.table.follows(state, command, situation, follower)
     }
 }

@@ -2,7 +2,6 @@
 
 ghost use Rattle.std.specs.Prelude.{◌≡◌, ◌≤◌, length, take};
 ghost use Rattle.model.specs.Reading.{SoFar as Model, at_end};
-ghost use Rattle.model.specs.ReadingLaws.{NumbersGood};
 ghost use Rattle.ruletext.specs.Standing.{Standing};
 ghost use Rattle.ruletext.specs.View.{Gives};
 
@@ -11,6 +10,7 @@ use crate::rule::ReadRule;
 use crate::so_far::SoFar;
 use crate::table::Table;
 use model::fault::{LineFault, ReadFault};
+use rules::Numbers;
 
 // An own copy of the name.
 fn copied(name: &[u8]) -> [u8; 8]
@@ -26,12 +26,11 @@ fn copied(name: &[u8]) -> [u8; 8]
 pub fn whole_rule(
     so_far: SoFar,
     line: usize,
-    situations: u8,
-    commands: u8,
+    numbers: Numbers,
     table: Table,
 ) -> Result<ReadRule, ReadFault>
-    requires { (NumbersGood situations commands) × (((m : Model) × Standing situations commands so_far table.rejecting table.arrows m)) }
-    ensures { (m : Model) → Standing situations commands so_far.entry table.rejecting table.arrows m → Gives situations commands (at_end situations commands line m) result }
+    requires { (m : Model) × Standing numbers.situations numbers.commands so_far table.rejecting table.arrows m }
+    ensures { (m : Model) → Standing numbers.situations numbers.commands so_far.entry table.rejecting table.arrows m → Gives numbers.situations numbers.commands (at_end numbers.situations numbers.commands line m) result }
 {
     let SoFar::Full(name, size) = so_far else {
         return Err(ReadFault::Line(LineFault::Order { line }));
@@ -42,8 +41,8 @@ pub fn whole_rule(
     let filled = ReadRule {
         name: copied(name),
         letters: name.len() as u8,
-        situations,
-        commands,
+        situations: numbers.situations,
+        commands: numbers.commands,
         states: size.states,
         start: size.start,
         table,

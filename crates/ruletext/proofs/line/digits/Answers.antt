@@ -1,4 +1,6 @@
-use Rattle.std.proofs.Common.{inl, inr}
+use Rattle.std.proofs.Common.{sym, ap, ◌∙◌, drop, inl, inr}
+use Rattle.model.specs.Reading.{part}
+use Rattle.ruletext.specs.Lines.{states_of}
 use Rattle.std.proofs.lemmas.Result.{err_from_is_err_and}
 use Rattle.ruletext.proofs.Loops.{through_more, through_wrong, through_end, through_none}
 use Rattle.ruletext.proofs.line.digits.Goals as goal
@@ -25,5 +27,6 @@ returns-in_err-behind c =
 pub returns : goal.returns
 returns c = (
   c.in_ok-behind.ensures.0,
-  through_end c.args.text.now c.args.at c.loop-end.end c.loop-end.invariant c.in_ok-behind.field-0-0 c.in_ok-behind.behind c.in_ok-behind.ensures.1,
+  through_end c.args.text.now c.args.at c.loop-end.end c.loop-end.invariant c.in_ok-behind.field-0-0 c.in_ok-behind.behind c.in_ok-behind.ensures.1
+      ∙ ap (λ z. part (states_of z) c.in_ok-behind.behind (drop c.in_ok-behind.behind c.args.text.now)) (sym c.as_chunks.ensures.front),
 )

@@ -1,16 +1,8 @@
-use Rattle.std.proofs.Common.{drop, arith}
+use Rattle.std.proofs.Common.{drop}
 use Rattle.std.proofs.lemmas.Result.{err_from_is_err_and}
 use Rattle.ruletext.specs.Lines.{line_of}
 use Rattle.ruletext.proofs.Lining.{line_whole, taken_on, taken_off}
 use Rattle.ruletext.proofs.read.take_line.Goals as goal
-
-pub with_line-requires : goal.with_line-requires
-with_line-requires c =
-    let j = c.in_ok-words.behind in
-    let text = c.args.text.now in
-    let w = line_whole text (line_of c.in_ok-words.words) j (drop j text) c.in_ok-words.ensures.1 in
-    let s = w.short in
-    (c.requires.0, (c.requires.1.0, (c.requires.1.1.0, omega (arith, c.requires.1.1.1))))
 
 pub returns-in_err-next : goal.returns-in_err-next
 returns-in_err-next c =
@@ -23,7 +15,7 @@ returns-in_err-next c =
     rw (p.1, p.2)
     record {
       takes = λ m standing.
-          taken_off c.args.situations c.args.commands c.args.line m text l j (drop j text) e c.in_err-next.field-0.0
+          taken_off c.args.numbers.situations c.args.numbers.commands c.args.line m text l j (drop j text) e c.in_err-next.field-0.0
           (c.in_err-next.ensures m w.good standing);
       inside = tt;
     }
@@ -38,6 +30,6 @@ returns c =
     record {
       takes = λ m standing.
           let s = c.in_ok-next.ensures m w.good standing in
-          (s.0, taken_on c.args.situations c.args.commands c.args.line m text l j (drop j text) e s.0 s.1, s.2);
+          (s.0, taken_on c.args.numbers.situations c.args.numbers.commands c.args.line m text l j (drop j text) e s.0 s.1, s.2);
       inside = (w.some_byte, c.in_ok-words.ensures.0);
     }

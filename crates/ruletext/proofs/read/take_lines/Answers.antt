@@ -6,20 +6,20 @@ use Rattle.ruletext.proofs.Lining.{Lining, lining_start, lining_more, lining_sto
 use Rattle.ruletext.proofs.read.take_lines.Goals as goal
 
 pub loop-rest-init : goal.loop-rest-init
-loop-rest-init c = lining_start c.args.situations c.args.commands c.args.text.now c.args.table.now.rejecting c.args.table.now.arrows c.requires.1.1.1
+loop-rest-init c = lining_start c.args.numbers.situations c.args.numbers.commands c.args.text.now c.args.table.now.rejecting c.args.table.now.arrows c.requires.1
 
 pub take_line-requires : goal.take_line-requires
 take_line-requires c =
-    let S = c.args.situations in
-    let C = c.args.commands in
+    let S = c.args.numbers.situations in
+    let C = c.args.numbers.commands in
     let t = c.loop-rest.invariant in
     let tables = c.loop-rest.table in
-    (standing_small S C c.loop-rest.so_far tables.rejecting tables.arrows t.come t.standing, (c.requires.0, (c.requires.1.0, omega (arith, t.short, t.counted, c.requires.1.1.0))))
+    standing_small S C c.loop-rest.so_far tables.rejecting tables.arrows t.come t.standing
 
 pub returns-in_err-next : goal.returns-in_err-next
 returns-in_err-next c =
-    let S = c.args.situations in
-    let C = c.args.commands in
+    let S = c.args.numbers.situations in
+    let C = c.args.numbers.commands in
     let t = c.loop-rest.invariant in
     let tables = c.loop-rest.table in
     let rest = c.loop-rest.rest.now in
@@ -30,7 +30,7 @@ returns-in_err-next c =
     (c.in_err-next.ensures.takes t.come t.standing))
 
 pub overflow_add-line : goal.overflow_add-line
-overflow_add-line c = let t = c.loop-rest.invariant in omega (arith, t.short, c.requires.1.1.0)
+overflow_add-line c = let t = c.loop-rest.invariant in omega (arith, t.short, c.requires.0)
 
 pub loop-rest-smaller : goal.loop-rest-smaller
 loop-rest-smaller c =
@@ -42,8 +42,8 @@ loop-rest-smaller c =
 
 pub loop-rest-preserved : goal.loop-rest-preserved
 loop-rest-preserved c =
-    let S = c.args.situations in
-    let C = c.args.commands in
+    let S = c.args.numbers.situations in
+    let C = c.args.numbers.commands in
     let t = c.loop-rest.invariant in
     let tables = c.loop-rest.table in
     let after = c.take_line.new.table in
@@ -59,8 +59,8 @@ loop-rest-preserved c =
 
 pub returns : goal.returns
 returns c =
-    let S = c.args.situations in
-    let C = c.args.commands in
+    let S = c.args.numbers.situations in
+    let C = c.args.numbers.commands in
     let t = c.loop-rest.invariant in
     let tables = c.loop-rest.table in
     (t.come, lining_end S C c.args.text.now c.loop-rest.so_far c.loop-rest.line c.loop-rest.rest.now tables.rejecting tables.arrows t (eqb-true (length c.loop-rest.rest.now) 0 (sym c.loop-rest-test.ensures)), t.standing)

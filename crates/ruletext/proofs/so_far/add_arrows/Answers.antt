@@ -8,12 +8,12 @@ use Rattle.ruletext.proofs.so_far.add_arrows.Goals as goal
 pub connect-requires : goal.connect-requires
 connect-requires c =
     let a = arrows_of c.args.arrows in
-    let C = c.args.commands in
-    let S = c.args.situations in
+    let C = c.args.numbers.commands in
+    let S = c.args.numbers.situations in
     let e : first_outside (numbers S C c.args.states (t_line a)) ≡ None = sym {b = first_outside (numbers S C c.args.states (t_line a))} c.in_default.ensures in
     let l = arrows_below S C c.args.states a e in
     let f = l.from in
     record {
-      fits = (c.args.table.now.sized.1, (omega arith, (c.requires.1.1.0, (c.requires.1.0, λ p i. let k = l.to p i in omega arith))));
+      fits = (omega arith, λ p i. let k = l.to p i in omega arith);
       named = (below_true C a.command l.command, below_true S a.situation l.situation);
     }

@@ -1,17 +1,11 @@
-use Rattle.std.proofs.Common.{◌≡◌, ◌≤◌, length, None, sym, refl, ap, ◌∙◌, subst}
-use Rattle.model.specs.Text.{t_line, line_bytes, numbers}
+use Rattle.std.proofs.Common.{◌≡◌, None, sym, refl, ap, ◌∙◌, subst}
+use Rattle.model.specs.Text.{t_line, numbers}
 use Rattle.model.specs.Reading.{full, with_arrows}
 use Rattle.ruletext.specs.Lines.{line_of, arrows_of}
 use Rattle.ruletext.specs.Ranges.{first_outside}
 use Rattle.ruletext.specs.Standing.{step}
-use Rattle.ruletext.proofs.Going.{t_length, step_on, arrows_drafted}
+use Rattle.ruletext.proofs.Going.{step_on, arrows_drafted}
 use Rattle.ruletext.proofs.so_far.arrow_line.Goals as goal
-
-pub add_arrows-requires : goal.add_arrows-requires
-add_arrows-requires c =
-    let a = arrows_of c.in-Arrows.arrows in
-    let h = subst (λ w. length (line_bytes (line_of w)) ≤ 4096) c.in-Arrows.is c.requires.1.1.1 in
-    (c.requires.0, (c.requires.1.0, (c.requires.1.1.0, t_length a h)))
 
 pub returns : goal.returns
 returns c =
@@ -19,8 +13,8 @@ returns c =
     let n = c.args.size.states in
     let q = c.args.size.start in
     let line = c.args.line in
-    let S = c.args.situations in
-    let C = c.args.commands in
+    let S = c.args.numbers.situations in
+    let C = c.args.numbers.commands in
     let a = arrows_of c.in-Arrows.arrows in
     let t = c.args.table.now in
     let after = c.add_arrows.new.table in

@@ -1,14 +1,10 @@
-use Rattle.std.proofs.Common.{◌≤◌, [], length, refl, ap, ◌∙◌, subst}
-use Rattle.model.specs.Text.{TextRule, r_line, line_bytes}
+use Rattle.std.proofs.Common.{[], refl, ap, ◌∙◌}
+use Rattle.model.specs.Text.{TextRule, r_line}
 use Rattle.model.specs.Reading.{sized, full}
 use Rattle.ruletext.specs.Lines.{line_of, states_in}
 use Rattle.ruletext.specs.Standing.{step}
-use Rattle.ruletext.proofs.Going.{r_length, step_on, rejecting_drafted}
+use Rattle.ruletext.proofs.Going.{step_on, rejecting_drafted}
 use Rattle.ruletext.proofs.so_far.rejecting_line.Goals as goal
-
-pub add_rejecting-requires : goal.add_rejecting-requires
-add_rejecting-requires c =
-    (c.requires.0, r_length (states_in c.in-Rejects.rejects.states) (subst (λ w. length (line_bytes (line_of w)) ≤ 4096) c.in-Rejects.is c.requires.1))
 
 pub returns : goal.returns
 returns c =

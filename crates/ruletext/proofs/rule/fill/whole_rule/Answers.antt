@@ -9,13 +9,13 @@ use Rattle.ruletext.proofs.rule.fill.whole_rule.Goals as goal
 
 pub returns-then-not-all_reached : goal.returns-then-not-all_reached
 returns-then-not-all_reached c =
-    let S = c.args.situations in
-    let C = c.args.commands in
+    let S = c.args.numbers.situations in
+    let C = c.args.numbers.commands in
     let t = c.args.table in
     let name = c.in-Full.name.now in
     let n = c.in-Full.size.states in
     let q = c.in-Full.size.start in
-    let good = c.requires.0 in
+    let good = c.args.numbers.good in
     λ m standing.
     let s = subst (λ z. Standing S C z t.rejecting t.arrows m) c.in-Full.is standing in
     let r = s.0 in
@@ -26,14 +26,14 @@ returns-then-not-all_reached c =
 
 pub invariant_of-filled : goal.invariant_of-filled
 invariant_of-filled c =
-    let S = c.args.situations in
-    let C = c.args.commands in
+    let S = c.args.numbers.situations in
+    let C = c.args.numbers.commands in
     let t = c.args.table in
     let name = c.in-Full.name.now in
     let n = c.in-Full.size.states in
     let q = c.in-Full.size.start in
-    let good = c.requires.0 in
-    let given = c.requires.1 in
+    let good = c.args.numbers.good in
+    let given = c.requires in
     let s = subst (λ z. Standing S C z t.rejecting t.arrows given.0) c.in-Full.is given.1 in
     let r = s.0 in
     let d = s.2 in
@@ -54,13 +54,13 @@ invariant_of-filled c =
 
 pub returns : goal.returns
 returns c =
-    let S = c.args.situations in
-    let C = c.args.commands in
+    let S = c.args.numbers.situations in
+    let C = c.args.numbers.commands in
     let t = c.args.table in
     let name = c.in-Full.name.now in
     let n = c.in-Full.size.states in
     let q = c.in-Full.size.start in
-    let good = c.requires.0 in
+    let good = c.args.numbers.good in
     let copy = take (length name) c.copied.result in
     λ m standing.
     let s = subst (λ z. Standing S C z t.rejecting t.arrows m) c.in-Full.is standing in
