@@ -8,7 +8,7 @@ use Rattle.model.specs.ReadingLaws.{Correct, Below}
 use Rattle.model.proofs.Lists.{in_append}
 use Rattle.model.proofs.Reading.Basics.{by_test}
 use Rattle.ruletext.specs.Ranges.{first_outside}
-use Rattle.ruletext.specs.Tables.{ArrowTable, arrow, has_state, Adds}
+use Rattle.ruletext.specs.Tables.{ArrowTable, has_state, Adds}
 use Rattle.ruletext.specs.declared.table.StateSet.{StateSet}
 use Rattle.ruletext.specs.Standing.{Clear, Drafted, on, step}
 use Rattle.ruletext.proofs.Holding.{spot_none, states_below, arrows_below}
@@ -24,17 +24,17 @@ any_push f [] a = by_test (f a) (λ t. cc) (λ t. cc)
 any_push f (x ∷ xs) a = let ih = any_push f xs a in by_test (f x) (λ t. cc) (λ t. cc)
 
 -- behind an r line
-pub rejecting_drafted : (S C : ℕ) (name : List ℕ) (n q : ℕ) (rejecting rejecting' : StateSet) (arrows arrows' : ArrowTable) (qs : List ℕ)
+pub rejecting_drafted : (S C : ℕ) (name : List ℕ) (n q : ℕ) (rejecting rejecting' : StateSet) (arrows : ArrowTable) (qs : List ℕ)
     → Clear rejecting arrows → Correct (n_line name) → 1 ≤ n → n ≤ 8 → q < n → first_outside (state_numbers n 2 qs) ≡ None
-    → ((k : ℕ) → has_state rejecting' k ≡ (has_state rejecting k || among qs k)) → arrows' ≡ arrows
-    → Drafted S C name n q rejecting' arrows' (record { name = name; states = n; start = q; rejecting = qs; arrows = [] })
-rejecting_drafted S C name n q rejecting rejecting' arrows arrows' qs clear good low high start ok marks same =
+    → ((k : ℕ) → has_state rejecting' k ≡ (has_state rejecting k || among qs k))
+    → Drafted S C name n q rejecting' arrows (record { name = name; states = n; start = q; rejecting = qs; arrows = [] })
+rejecting_drafted S C name n q rejecting rejecting' arrows qs clear good low high start ok marks =
     record {
       names = refl;
       counts = refl;
       starts = refl;
       rejects = λ k. marks k ∙ ap (λ z. z || among qs k) (clear.0 k);
-      leads = λ q u x p hq hu hx hp. ap (λ z. arrow z q u x p) same ∙ clear.1 q u x p;
+      leads = λ q u x p hq hu hx hp. clear.1 q u x p;
       ranged =
           record {
             named = good;

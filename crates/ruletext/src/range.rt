@@ -1,10 +1,10 @@
 //! The numbers of a line, held to their ranges from left to right.
 
-ghost use Rattle.std.specs.Prelude.{◌≡◌, ◌+◌, ◌-◌, ◌*◌, ◌^◌, ◌<◌, length, nat_le};
+ghost use Rattle.std.specs.Prelude.{◌≡◌, ◌+◌, ◌-◌, ◌*◌, ◌^◌, ◌<◌, ◌≤◌, length, nat_le, IfOk};
 ghost use Rattle.std.specs.List.{position};
 ghost use Rattle.model.specs.Text.{state_numbers, numbers as line_numbers};
 ghost use Rattle.ruletext.specs.Lines.{digit_of, states_in, size_line, arrows_line};
-ghost use Rattle.ruletext.specs.Ranges.{first_outside};
+ghost use Rattle.ruletext.specs.Ranges.{first_outside, fault_of};
 
 use crate::line::{Arrows, Size};
 use rules::Numbers;
@@ -32,17 +32,32 @@ pub fn outside(words: &[[u8; 2]], states: u8, at: usize) -> Option<usize>
     Some(at + 2 * word)
 }
 
-/// The byte of the first number of an s line that is out of range, if there is one.
-pub fn outside_size(size: Size) -> Option<usize>
-    ensures { result ≡ first_outside (line_numbers 0 0 size.states (size_line size)) }
-{
-    if size.states < 1 || size.states > 8 {
-        return Some(2);
+/// A number of states, 1 to 8, and the start state, which is one of them.
+#[derive(Clone, Copy)]
+pub struct States {
+    pub count: u8,
+    pub start: u8,
+    ghost counted: { (1 ≤ count) × (count ≤ 8) },
+    ghost begins: { start < count },
+}
+
+impl States {
+    /// Those of an s line, or the byte of its first number that is out of range.
+    pub fn of(size: Size) -> Result<States, usize>
+        ensures outside { fault_of result ≡ first_outside (line_numbers 0 0 size.states (size_line size)) }
+        ensures same { IfOk result (λ s. (s.count ≡ size.states) × (s.start ≡ size.start)) }
+    {
+        if size.states < 1 || size.states > 8 {
+            return Err(2);
+        }
+        if size.start >= size.states {
+            return Err(4);
+        }
+        Ok(States {
+            count: size.states,
+            start: size.start,
+        })
     }
-    if size.start >= size.states {
-        return Some(4);
-    }
-    None
 }
 
 /// The byte of the first number of a t line that is out of range, if there is one.

@@ -5,6 +5,7 @@ ghost use Rattle.std.specs.List.{list_any, range_with_len};
 ghost use Rattle.model.specs.ReadingLaws.{AllReached};
 ghost use Rattle.ruletext.specs.Tables.{arrow, led, follower, Within, automaton};
 
+use crate::range::States;
 use crate::table::Table;
 use search::breadth_first::explore;
 use search::graph::Graph;
@@ -25,13 +26,13 @@ fn leads(table: &Table, from: u8, to: u8) -> bool
     (0..8).any(|command| leads_under(table, command, from, to))
 }
 
-/// The states of a rule as a graph: a state leads to each that follows it, under some command in some situation.
+// The states of a rule as a graph, by its arrows: a state leads to each that follows it, under some command in some situation.
 #[derive(Clone, Copy)]
-struct States<'a> {
+struct Arrows<'a> {
     table: &'a Table,
 }
 
-impl Graph for States<'_> {
+impl Graph for Arrows<'_> {
     type Node = u8;
 
     ghost same = { λ g a b. (a == b) };
@@ -58,17 +59,16 @@ impl Graph for States<'_> {
     }
 }
 
-/// Whether every state below `states` is reached from the start state.
-pub fn all_reached(table: &Table, states: u8, start: u8) -> bool
-    requires { (states ≤ 8) × (start < states) }
-    ensures { (S C : ℕ) → Within S C states table.now.arrows → Decides result (AllReached (automaton S C states start table.now.rejecting table.now.arrows)) }
+/// Whether every state is reached from the start state.
+pub fn all_reached(table: &Table, states: States) -> bool
+    ensures { (S C : ℕ) → Within S C states.count table.now.arrows → Decides result (AllReached (automaton S C states.count states.start table.now.rejecting table.now.arrows)) }
 {
-    let graph = States { table };
+    let graph = Arrows { table };
     let mut met = [0; 8];
     let mut waiting = [0; 8];
     let mut links = [0; 64];
-    match explore(&graph, &start, &mut met, &mut waiting, &mut links) {
-        Some(n) => n == states as usize,
+    match explore(&graph, &states.start, &mut met, &mut waiting, &mut links) {
+        Some(n) => n == states.count as usize,
         None => false,
     }
 }
