@@ -10,6 +10,7 @@ use Rattle.model.specs.Lists.{first}
 use Rattle.model.specs.Text.{Number, Line, n_line, s_line, r_line, t_line, line_bytes, numbers, inside}
 use Rattle.model.specs.Reading.{Part, part, wrong, first_line, SoFar, nothing, onward, states_so_far, Reading, faulty, read_lines, at_end}
 use Rattle.model.proofs.Reading.Parts.{line_exact}
+use Rattle.rules.specs.declared.numbers.Numbers.{Numbers}
 use Rattle.ruletext.specs.declared.so_far.Reading.{Reading as Text}
 use Rattle.ruletext.specs.Standing.{Stands, Takes, on, off, step, Taken, going, stopped, take_line}
 
@@ -87,59 +88,58 @@ module _ (S C turns line : ℕ) (m : SoFar) (b : ℕ) (bs : List ℕ) where
   line_stopped f e = by_line ∙ ap after e
 
 -- between two lines: what is left to read, from how far the lines have come
-pub record Lining (first : Text) (text : List ℕ) (now : Text) (rest : List ℕ) : Type 0 where
-  pub same : now.numbers ≡ first.numbers
+pub record Lining (given : Numbers) (text : List ℕ) (now : Text) (rest : List ℕ) : Type 0 where
+  pub same : now.numbers ≡ given
   pub come : SoFar
   pub turns : ℕ
   pub enough : length rest ≤ turns
-  pub place : read_lines first.numbers.situations first.numbers.commands (length text) 1 nothing text ≡ read_lines first.numbers.situations first.numbers.commands turns now.line come rest
+  pub place : read_lines given.situations given.commands (length text) 1 nothing text ≡ read_lines given.situations given.commands turns now.line come rest
   pub stands : Stands now come
   pub short : now.line + length rest ≤ 1 + length text
 
-pub lining_start : (first : Text) (text : List ℕ) → first.line ≡ 1 → Stands first nothing → Lining first text first text
-lining_start first text one stands =
+pub lining_start : (given : Numbers) (text : List ℕ) (now : Text) → now.numbers ≡ given → now.line ≡ 1 → Stands now nothing → Lining given text now text
+lining_start given text now same one stands =
     record {
-      same = refl;
+      same = same;
       come = nothing;
       turns = length text;
       enough = omega arith;
-      place = ap (λ k. read_lines first.numbers.situations first.numbers.commands (length text) k nothing text) (sym one);
+      place = ap (λ k. read_lines given.situations given.commands (length text) k nothing text) (sym one);
       stands = stands;
       short = omega arith;
     }
 
-module _ (first : Text) (text : List ℕ) (now : Text) (rest : List ℕ) (t : Lining first text now rest) where
+module _ (given : Numbers) (text : List ℕ) (now : Text) (rest : List ℕ) (t : Lining given text now rest) where
   more : (S C : ℕ) (r : List ℕ) (n : ℕ) → rest ≡ r → t.turns ≡ n → 0 < length rest → (taken : Taken) → take_line S C now.line t.come rest ≡ taken
       → (k : ℕ) × (suc k ≡ t.turns) × (b : ℕ) × (bs : List ℕ) × (rest ≡ b ∷ bs)
   more S C [] n e f h taken d = let z = ap length e in absurd (omega arith)
   more S C (b ∷ bs) zero e f h taken d = let z = t.enough in absurd (omega arith)
   more S C (b ∷ bs) (suc k) e f h taken d = (k, sym f, b, bs, e)
 
-  -- with the numbers of the beginning
   abbrev S : ℕ
-  S = first.numbers.situations
+  S = given.situations
 
   abbrev C : ℕ
-  C = first.numbers.commands
+  C = given.commands
 
-  from_first : (taken : Taken) → take_line now.numbers.situations now.numbers.commands now.line t.come rest ≡ taken → take_line S C now.line t.come rest ≡ taken
-  from_first taken e = subst (λ z. take_line z.situations z.commands now.line t.come rest ≡ taken) t.same e
+  at_given : (taken : Taken) → take_line now.numbers.situations now.numbers.commands now.line t.come rest ≡ taken → take_line S C now.line t.come rest ≡ taken
+  at_given taken e = subst (λ z. take_line z.situations z.commands now.line t.come rest ≡ taken) t.same e
 
   pub lining_stopped : (f : LineFault) → 0 < length rest → take_line now.numbers.situations now.numbers.commands now.line t.come rest ≡ stopped f
       → read_lines S C (length text) 1 nothing text ≡ faulty (OfLine f)
   lining_stopped f h e =
-      let s = more S C rest t.turns refl refl h (stopped f) (from_first (stopped f) e) in
+      let s = more S C rest t.turns refl refl h (stopped f) (at_given (stopped f) e) in
       let k = s.0 in
       let b = s.2 in
       let bs = s.3 in
       t.place ∙ ap (λ n. read_lines S C n now.line t.come rest) (sym s.1) ∙ ap (λ z. read_lines S C (suc k) now.line t.come z) s.4
-      ∙ line_stopped S C k now.line t.come b bs f (subst (λ z. take_line S C now.line t.come z ≡ stopped f) s.4 (from_first (stopped f) e))
+      ∙ line_stopped S C k now.line t.come b bs f (subst (λ z. take_line S C now.line t.come z ≡ stopped f) s.4 (at_given (stopped f) e))
 
   pub lining_more : (after : Text) (behind : Bor (List ℕ)) → 0 < length rest → after.numbers ≡ now.numbers → after.line ≡ now.line + 1 → length behind.now < length rest
-      → Takes now t.come rest after (Ok behind) → Lining first text after behind.now
+      → Takes now t.come rest after (Ok behind) → Lining given text after behind.now
   lining_more after behind h kept next shorter taken =
       let m = taken.0 in
-      let e = from_first (going m behind.now) taken.1 in
+      let e = at_given (going m behind.now) taken.1 in
       let s = more S C rest t.turns refl refl h (going m behind.now) e in
       let k = s.0 in
       let b = s.2 in

@@ -9,6 +9,7 @@ use Rattle.model.specs.Lists.{any, first}
 use Rattle.model.specs.Text.{TextRule, Line, among, has_arrow, numbers, inside}
 use Rattle.model.specs.Reading.{SoFar, nothing, named, sized, full, onward, states_so_far, part, wrong, first_line, read_lines, at_end, faulty}
 use Rattle.model.specs.ReadingLaws.{Ranged}
+use Rattle.rules.specs.declared.numbers.Numbers.{Numbers}
 use Rattle.ruletext.specs.declared.so_far.Reading.{Reading as Text}
 use Rattle.ruletext.specs.declared.so_far.SoFar.{SoFar as Far}
 use Rattle.ruletext.specs.declared.so_far.SoFar.TheVariants as far
@@ -81,9 +82,8 @@ Takes r m bytes after (Ok rest) =
 Takes r m bytes after (Err f) = take_line r.numbers.situations r.numbers.commands r.line m bytes ≡ stopped f
 
 -- the code's answer to all lines is the model's, up to what is looked at behind the last
-abbrev pub TakesAll : Text → List ℕ → Text → Result (Unit {0}) LineFault → Type 0
-TakesAll r bytes after (Ok _) =
-    (m : SoFar)
-    × (read_lines r.numbers.situations r.numbers.commands (length bytes) 1 nothing bytes ≡ at_end r.numbers.situations r.numbers.commands after.line m)
-    × Stands after m
-TakesAll r bytes after (Err f) = read_lines r.numbers.situations r.numbers.commands (length bytes) 1 nothing bytes ≡ faulty (OfLine f)
+abbrev pub TakesAll : Numbers → List ℕ → Result Text LineFault → Type 0
+TakesAll n bytes (Ok r) =
+    (r.numbers ≡ n)
+    × ((m : SoFar) × (read_lines n.situations n.commands (length bytes) 1 nothing bytes ≡ at_end n.situations n.commands r.line m) × Stands r m)
+TakesAll n bytes (Err f) = read_lines n.situations n.commands (length bytes) 1 nothing bytes ≡ faulty (OfLine f)

@@ -19,9 +19,7 @@ fn rule_of(text: &[u8], situations: u8, commands: u8) -> Result<ReadRule, ReadFa
     if text.is_empty() || text.len() > 4096 {
         return Err(ReadFault::Length);
     }
-    let mut reading = Reading::new(numbers);
-    reading.take_all(text)?;
-    reading.whole()
+    Reading::of(text, numbers)?.whole()
 }
 
 /// Fills the rule with the one that the text states for so many situations and commands; or says what is wrong with the text,

@@ -3,7 +3,7 @@
 ghost use Rattle.std.specs.Prelude.{◌≡◌, ◌+◌, ◌<◌, ◌^◌, length, IfOk};
 ghost use Rattle.model.specs.Reading.{SoFar as Model, nothing};
 
-use crate::line::{Arrows, Line, Rejects, first_line};
+use crate::line::{Line, first_line};
 use crate::name::Name;
 use crate::range::{States, outside, outside_arrows};
 use crate::table::Table;
@@ -33,8 +33,8 @@ impl Reading {
     ghost use Rattle.ruletext.specs.declared.so_far.SoFar.TheVariants as far;
     ghost use Rattle.ruletext.specs.Standing.{Stands, StandsAt, Steps, Takes, TakesAll};
 
-    /// Before the first line.
-    pub fn new(numbers: Numbers) -> Reading
+    // Before the first line.
+    fn new(numbers: Numbers) -> Reading
         ensures stands { Stands result nothing }
         ensures first { result.line ≡ 1 }
         ensures numbers { result.numbers ≡ numbers }
@@ -67,16 +67,10 @@ impl Reading {
         let Line::Size(size) = words else {
             return Err(LineFault::Order { line: self.line });
         };
-        match States::of(size) {
-            Ok(states) => {
-                self.so_far = SoFar::Sized(name, states);
-                Ok(())
-            }
-            Err(byte) => Err(LineFault::Range {
-                line: self.line,
-                byte,
-            }),
-        }
+        let line = self.line;
+        let states = States::of(size).map_err(|byte| LineFault::Range { line, byte })?;
+        self.so_far = SoFar::Sized(name, states);
+        Ok(())
     }
 
     // The line behind the s line: an r line.
@@ -116,8 +110,8 @@ impl Reading {
         Ok(())
     }
 
-    /// One more line, if it comes next and its numbers are in range.
-    pub fn add(&mut self, words: Line) -> Result<(), LineFault>
+    // One more line, if it comes next and its numbers are in range.
+    fn add(&mut self, words: Line) -> Result<(), LineFault>
         ensures kept { (self.new.numbers ≡ self.old.numbers) × (self.new.line ≡ self.old.line) }
         ensures steps { (m : Model) → Stands self.old m → Steps self.old m (line_of words.entry) self.new result }
     {
@@ -129,8 +123,8 @@ impl Reading {
         }
     }
 
-    /// The first line of the text, which is one more: the text behind it.
-    pub fn take<'a>(&mut self, text: &'a [u8]) -> Result<&'a [u8], LineFault>
+    // The first line of the text, which is one more: the text behind it.
+    fn take<'a>(&mut self, text: &'a [u8]) -> Result<&'a [u8], LineFault>
         requires { self.old.line + length text.now < 2 ^ 64 }
         ensures kept { self.new.numbers ≡ self.old.numbers }
         ensures line { IfOk result (λ _. self.new.line ≡ self.old.line + 1) }
@@ -143,17 +137,15 @@ impl Reading {
         Ok(rest)
     }
 
-    /// All lines of the text.
-    pub fn take_all(&mut self, text: &[u8]) -> Result<(), LineFault>
-        requires first { self.old.line ≡ 1 }
-        requires stands { Stands self.old nothing }
-        ensures kept { self.new.numbers ≡ self.old.numbers }
-        ensures takes { TakesAll self.old text.now self.new result }
+    /// What all lines of the text state.
+    pub fn of(text: &[u8], numbers: Numbers) -> Result<Reading, LineFault>
+        ensures { TakesAll numbers text.now result }
     {
+        let mut reading = Reading::new(numbers);
         let mut rest = text;
         while !rest.is_empty() {
-            rest = self.take(rest)?;
+            rest = reading.take(rest)?;
         }
-        Ok(())
+        Ok(reading)
     }
 }
