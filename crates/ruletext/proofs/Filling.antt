@@ -1,15 +1,14 @@
 -- The tables of a drafted rule state the rule that the lines mean.
-use Rattle.std.proofs.Common.{◌≡◌, ℕ, ◌<◌, ◌≤◌, Bool, true, false, ◌&&◌, eqb, ltb, List, length, Decides, sym, ap, ◌∙◌, subst, arith}
+use Rattle.std.proofs.Common.{◌≡◌, ℕ, ◌<◌, ◌≤◌, Bool, true, false, ◌&&◌, eqb, ltb, List, Decides, sym, ap, ◌∙◌, subst, arith}
 use mathlib.Core.Path.{fun_ext}
 use Rattle.std.proofs.lemmas.Bool.{and_parts, and_from, lt-ltb, ltb-true, both_ways}
 use Rattle.model.specs.Automaton.{Automaton}
 use Rattle.model.specs.Lists.{any}
-use Rattle.model.specs.Text.{Choice, one, each, TextRule, n_line, good_name, has_arrow, meaning, all_reached, filled, named_rule}
+use Rattle.model.specs.Text.{Choice, one, each, TextRule, has_arrow, meaning, all_reached, filled, named_rule}
 use Rattle.model.specs.Reading.{at_end, full, reads, faulty}
 use Rattle.model.specs.declared.fault.ReadFault.TheVariants.{Unreached}
 use Rattle.model.specs.ReadingLaws.{Below, Chosen, NumbersGood, AllReached}
 use Rattle.model.proofs.Reading.Basics.{by_test}
-use Rattle.model.proofs.Reading.Correct.{correct_exact}
 use Rattle.model.proofs.Reading.Meanings.{meaning_exact}
 use Rattle.model.proofs.Reading.Reached.{all_reached_exact}
 use Rattle.ruletext.specs.Tables.{ArrowTable, arrow, has_state, automaton, Within}
@@ -21,20 +20,8 @@ chosen_below n (one d) i h e = omega arith
 chosen_below n each i h e = e
 
 module _ (S C : ℕ) (good : NumbersGood S C) (name : List ℕ) (n q : ℕ) (rejecting : StateSet) (arrows : ArrowTable) (r : TextRule) (d : Drafted S C name n q rejecting arrows r) where
-  pub small : n ≤ 8
+  small : n ≤ 8
   small = let k = d.ranged.counted in let c = d.counts in omega (arith, k.1)
-
-  pub some_state : 0 < n
-  some_state = let k = d.ranged.counted in let c = d.counts in omega (arith, k.0)
-
-  pub start_below : q < n
-  start_below = let k = d.ranged.starts in let c = d.counts in let s = d.starts in omega arith
-
-  pub name_short : length name ≤ 8
-  name_short = let k = d.ranged.named in let e = ap length d.names in omega (arith, k.1)
-
-  pub name_good : good_name name ≡ true
-  name_good = subst (λ z. good_name z ≡ true) d.names ((correct_exact (n_line r.name)).1 d.ranged.named)
 
   -- an arrow of the lines lies within the numbers
   arrow_within : (p u x s : ℕ) → any (has_arrow S C p u x s) r.arrows ≡ true → (p < n) × (u < C) × (x < S) × (s < n)
@@ -82,7 +69,7 @@ module _ (S C : ℕ) (good : NumbersGood S C) (name : List ℕ) (n q : ℕ) (rej
   made : ℕ → (ℕ → Bool) → (ℕ → Bool) → (ℕ → ℕ → ℕ → ℕ → Bool) → Automaton
   made states start reject follows = record { situations = S; commands = C; states = states; start = start; reject = reject; follows = follows }
 
-  pub same_rule : automaton S C n q rejecting arrows ≡ meaning S C r
+  same_rule : automaton S C n q rejecting arrows ≡ meaning S C r
   unfolding made
   same_rule =
       let A = automaton S C n q rejecting arrows in

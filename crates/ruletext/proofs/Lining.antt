@@ -8,7 +8,7 @@ use Rattle.model.specs.declared.fault.LineFault.TheVariants.{Word, Order, Range}
 use Rattle.model.specs.declared.fault.ReadFault.TheVariants.{Line as OfLine}
 use Rattle.model.specs.Lists.{first}
 use Rattle.model.specs.Text.{Number, Line, n_line, s_line, r_line, t_line, line_bytes, numbers, inside}
-use Rattle.model.specs.Reading.{Part, part, wrong, first_line, SoFar, nothing, onward, states_so_far, Reading, faulty, read_lines, at_end}
+use Rattle.model.specs.Reading.{Part, part, wrong, first_line, SoFar, nothing, onward, states_so_far, Reading, faulty, read_lines}
 use Rattle.model.proofs.Reading.Parts.{line_exact}
 use Rattle.rules.specs.declared.numbers.Numbers.{Numbers}
 use Rattle.ruletext.specs.declared.so_far.Reading.{Reading as Text}
@@ -97,18 +97,6 @@ pub record Lining (given : Numbers) (text : List ℕ) (now : Text) (rest : List 
   pub stands : Stands now come
   pub short : now.line + length rest ≤ 1 + length text
 
-pub lining_start : (given : Numbers) (text : List ℕ) (now : Text) → now.numbers ≡ given → now.line ≡ 1 → Stands now nothing → Lining given text now text
-lining_start given text now same one stands =
-    record {
-      same = same;
-      come = nothing;
-      turns = length text;
-      enough = omega arith;
-      place = ap (λ k. read_lines given.situations given.commands (length text) k nothing text) (sym one);
-      stands = stands;
-      short = omega arith;
-    }
-
 module _ (given : Numbers) (text : List ℕ) (now : Text) (rest : List ℕ) (t : Lining given text now rest) where
   more : (S C : ℕ) (r : List ℕ) (n : ℕ) → rest ≡ r → t.turns ≡ n → 0 < length rest → (taken : Taken) → take_line S C now.line t.come rest ≡ taken
       → (k : ℕ) × (suc k ≡ t.turns) × (b : ℕ) × (bs : List ℕ) × (rest ≡ b ∷ bs)
@@ -158,10 +146,3 @@ module _ (given : Numbers) (text : List ℕ) (now : Text) (rest : List ℕ) (t :
         stands = taken.2;
         short = omega arith;
       }
-
-  pub lining_end : length rest ≡ 0 → read_lines S C (length text) 1 nothing text ≡ at_end S C now.line t.come
-  lining_end h = t.place ∙ go rest refl
-    where
-      go : (r : List ℕ) → rest ≡ r → read_lines S C t.turns now.line t.come rest ≡ at_end S C now.line t.come
-      go [] e = ap (λ z. read_lines S C t.turns now.line t.come z) e
-      go (b ∷ bs) e = let z = ap length e in absurd (omega arith)

@@ -22,9 +22,6 @@ pub record Through (i : ℕ) (text : List ℕ) (at : ℕ) (rest : List ℕ) : Ty
   pub split : text ≡ joined digit_word found ++ rest
   pub count : at ≡ i + 2 * length found
 
-pub through_none : (i : ℕ) (text : List ℕ) → Through i text i text
-through_none i text = record { found = []; good = refl; split = refl; count = omega arith }
-
 every_push : (ds : List ℕ) (d : ℕ) → every one_digit ds ≡ true → one_digit d ≡ true → every one_digit (ds ++ (d ∷ [])) ≡ true
 every_push [] d h k = every_cons one_digit d [] k refl
 every_push (x ∷ ds) d h k = let p = every_parts one_digit x ds h in every_cons one_digit x (ds ++ (d ∷ [])) p.0 (every_push ds d p.1 k)
