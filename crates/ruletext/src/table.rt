@@ -19,7 +19,7 @@ pub struct StateSet {
 
 impl StateSet {
     /// Whether a state is one of them.
-    pub fn contains(&self, state: u8) -> bool
+    pub(crate) fn contains(&self, state: u8) -> bool
         requires { state < 8 }
         ensures { result ≡ has_state self.now state }
     {
@@ -27,7 +27,7 @@ impl StateSet {
     }
 
     /// Adds the states that the words name.
-    pub fn add(&mut self, words: &[[u8; 2]])
+    pub(crate) fn add(&mut self, words: &[[u8; 2]])
         requires { (q : ℕ) → In (states_in words) q → q < 8 }
         ensures { (p : ℕ) → has_state self.new p ≡ (has_state self.old p || among (states_in words.entry) p) }
     {
@@ -103,7 +103,7 @@ impl Table {
     }
 
     /// Whether an arrow leads from a state to its follower, under a command in a situation.
-    pub fn follows(&self, state: u8, command: u8, situation: u8, follower: u8) -> bool
+    pub(crate) fn follows(&self, state: u8, command: u8, situation: u8, follower: u8) -> bool
         requires { (state < 8) × ((command < 8) × ((situation < 8) × (follower < 8))) }
         ensures { result ≡ arrow self.now.arrows state command situation follower }
     {

@@ -31,7 +31,7 @@ pub enum Class {
 
 impl Class {
     /// Whether the byte is of the class.
-    pub fn contains(self, b: u8) -> bool
+    pub(crate) fn contains(self, b: u8) -> bool
         ensures { result ≡ passing self b }
     {
         match self {
@@ -71,7 +71,7 @@ impl<'a> Cursor<'a> {
     ghost use Rattle.ruletext.specs.Tokens.{Reads, Tokens, IsLetter, IsName, IsDigit, IsChoice};
 
     /// The front of the line that the text begins with.
-    pub fn new(text: &'a [u8], line: usize) -> Cursor<'a>
+    pub(crate) fn new(text: &'a [u8], line: usize) -> Cursor<'a>
         ensures { (result.rest.now ≡ text.now) × ((result.line ≡ line) × (result.at ≡ 0)) }
     {
         Cursor {
@@ -103,7 +103,7 @@ impl<'a> Cursor<'a> {
     }
 
     /// Whether a byte of the class stands here.
-    pub fn sees(&self, class: Class) -> bool
+    pub(crate) fn sees(&self, class: Class) -> bool
         ensures { result ≡ seen (passing class) self.now.rest.now }
     {
         match self.rest.first() {
@@ -113,7 +113,7 @@ impl<'a> Cursor<'a> {
     }
 
     /// One byte of the class.
-    pub fn byte(&mut self, class: Class) -> Result<u8, WordFault>
+    pub(crate) fn byte(&mut self, class: Class) -> Result<u8, WordFault>
         ensures { Reads (model_byte (passing class)) same self.old self.new result }
     {
         if !self.sees(class) {
@@ -125,7 +125,7 @@ impl<'a> Cursor<'a> {
     }
 
     /// The letter of a line.
-    pub fn letter(&mut self) -> Result<Token<'a>, WordFault>
+    pub(crate) fn letter(&mut self) -> Result<Token<'a>, WordFault>
         ensures { Tokens (model_byte model_letter) IsLetter self.old self.new result }
     {
         let b = self.byte(Class::Letter)?;
@@ -133,7 +133,7 @@ impl<'a> Cursor<'a> {
     }
 
     /// A space, a name, and the line end behind it.
-    pub fn name(&mut self) -> Result<Token<'a>, WordFault>
+    pub(crate) fn name(&mut self) -> Result<Token<'a>, WordFault>
         ensures { Tokens n_words IsName self.old self.new result }
     {
         self.byte(Class::Space)?;
@@ -148,7 +148,7 @@ impl<'a> Cursor<'a> {
     }
 
     /// A space and a digit.
-    pub fn digit(&mut self) -> Result<Token<'a>, WordFault>
+    pub(crate) fn digit(&mut self) -> Result<Token<'a>, WordFault>
         ensures { Tokens model_digit IsDigit self.old self.new result }
     {
         self.byte(Class::Space)?;
@@ -157,7 +157,7 @@ impl<'a> Cursor<'a> {
     }
 
     /// A space, and a digit or a star.
-    pub fn choice(&mut self) -> Result<Token<'a>, WordFault>
+    pub(crate) fn choice(&mut self) -> Result<Token<'a>, WordFault>
         ensures { Tokens model_choice IsChoice self.old self.new result }
     {
         self.byte(Class::Space)?;
