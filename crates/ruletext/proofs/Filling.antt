@@ -1,39 +1,27 @@
 -- The tables of a drafted rule state the rule that the lines mean.
-use Rattle.std.proofs.Common.{◌≡◌, ℕ, ◌<◌, ◌≤◌, Bool, true, false, ◌&&◌, eqb, ltb, List, length, get_or, Decides, sym, ap, ◌∙◌, subst, arith}
+use Rattle.std.proofs.Common.{◌≡◌, ℕ, ◌<◌, ◌≤◌, Bool, true, false, ◌&&◌, eqb, ltb, List, Decides, sym, ap, ◌∙◌, subst, arith}
 use mathlib.Core.Path.{fun_ext}
 use Rattle.std.proofs.lemmas.Bool.{and_parts, and_from, lt-ltb, ltb-true, both_ways}
 use Rattle.model.specs.Automaton.{Automaton}
 use Rattle.model.specs.Lists.{any}
-use Rattle.model.specs.Text.{Choice, one, each, TextRule, n_line, good_name, has_arrow, meaning, all_reached, filled, named_rule}
+use Rattle.model.specs.Text.{Choice, one, each, TextRule, has_arrow, meaning, all_reached, filled, named_rule}
 use Rattle.model.specs.Reading.{at_end, full, reads, faulty}
 use Rattle.model.specs.declared.fault.ReadFault.TheVariants.{Unreached}
 use Rattle.model.specs.ReadingLaws.{Below, Chosen, NumbersGood, AllReached}
 use Rattle.model.proofs.Reading.Basics.{by_test}
-use Rattle.model.proofs.Reading.Correct.{correct_exact}
 use Rattle.model.proofs.Reading.Meanings.{meaning_exact}
 use Rattle.model.proofs.Reading.Reached.{all_reached_exact}
-use Rattle.ruletext.specs.Tables.{place, automaton, Within}
+use Rattle.ruletext.specs.Tables.{ArrowTable, arrow, has_state, automaton, Within}
+use Rattle.ruletext.specs.declared.table.StateSet.{StateSet}
 use Rattle.ruletext.specs.Standing.{Drafted}
 
 chosen_below : (n : ℕ) (c : Choice) (i : ℕ) → Below n c → Chosen n c i → i < n
 chosen_below n (one d) i h e = omega arith
 chosen_below n each i h e = e
 
-module _ (S C : ℕ) (good : NumbersGood S C) (name : List ℕ) (n q : ℕ) (rejecting arrows : List Bool) (r : TextRule) (d : Drafted S C name n q rejecting arrows r) where
-  pub small : n ≤ 8
+module _ (S C : ℕ) (good : NumbersGood S C) (name : List ℕ) (n q : ℕ) (rejecting : StateSet) (arrows : ArrowTable) (r : TextRule) (d : Drafted S C name n q rejecting arrows r) where
+  small : n ≤ 8
   small = let k = d.ranged.counted in let c = d.counts in omega (arith, k.1)
-
-  pub some_state : 0 < n
-  some_state = let k = d.ranged.counted in let c = d.counts in omega (arith, k.0)
-
-  pub start_below : q < n
-  start_below = let k = d.ranged.starts in let c = d.counts in let s = d.starts in omega arith
-
-  pub name_short : length name ≤ 8
-  name_short = let k = d.ranged.named in let e = ap length d.names in omega (arith, k.1)
-
-  pub name_good : good_name name ≡ true
-  name_good = subst (λ z. good_name z ≡ true) d.names ((correct_exact (n_line r.name)).1 d.ranged.named)
 
   -- an arrow of the lines lies within the numbers
   arrow_within : (p u x s : ℕ) → any (has_arrow S C p u x s) r.arrows ≡ true → (p < n) × (u < C) × (x < S) × (s < n)
@@ -48,7 +36,7 @@ module _ (S C : ℕ) (good : NumbersGood S C) (name : List ℕ) (n q : ℕ) (rej
   pub within : Within S C n arrows
   within p u x s hp hu hx hs e = arrow_within p u x s (sym (d.leads p u x s hp hu hx hs) ∙ e)
 
-  pub rejects_below : (p : ℕ) → get_or rejecting p false ≡ true → p < n
+  pub rejects_below : (p : ℕ) → has_state rejecting p ≡ true → p < n
   rejects_below p e =
       let i = ((meaning_exact S C r).4 p).0 (sym (d.rejects p) ∙ e) in
       let k = d.ranged.rejects p i in
@@ -63,10 +51,10 @@ module _ (S C : ℕ) (good : NumbersGood S C) (name : List ℕ) (n q : ℕ) (rej
       let a = and_parts (ltb p 8) (ltb u 8 && (ltb x 8 && ltb s 8)) t in
       let b = and_parts (ltb u 8) (ltb x 8 && ltb s 8) a.1 in
       let c = and_parts (ltb x 8) (ltb s 8) b.1 in
-      ap (λ z. z && get_or arrows (place p u x s) false) t
+      ap (λ z. z && arrow arrows p u x s) t
       ∙ d.leads p u x s (ltb-true p 8 a.0) (ltb-true u 8 b.0) (ltb-true x 8 c.0) (ltb-true s 8 c.1))
       (λ t.
-      ap (λ z. z && get_or arrows (place p u x s) false) t
+      ap (λ z. z && arrow arrows p u x s) t
       ∙ by_test (any (has_arrow S C p u x s) r.arrows)
       (λ e.
       let w = arrow_within p u x s e in
@@ -81,7 +69,7 @@ module _ (S C : ℕ) (good : NumbersGood S C) (name : List ℕ) (n q : ℕ) (rej
   made : ℕ → (ℕ → Bool) → (ℕ → Bool) → (ℕ → ℕ → ℕ → ℕ → Bool) → Automaton
   made states start reject follows = record { situations = S; commands = C; states = states; start = start; reject = reject; follows = follows }
 
-  pub same_rule : automaton S C n q rejecting arrows ≡ meaning S C r
+  same_rule : automaton S C n q rejecting arrows ≡ meaning S C r
   unfolding made
   same_rule =
       let A = automaton S C n q rejecting arrows in

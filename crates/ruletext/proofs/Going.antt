@@ -1,40 +1,21 @@
 -- One more line: the tables then, and the rule that the lines state so far.
-use Rattle.std.proofs.Common.{◌≡◌, ℕ, ◌+◌, ◌*◌, ◌^◌, ◌<◌, ◌≤◌, Bool, false, not, ◌||◌, List, [], ◌∷◌, ◌++◌, length, get_or, None, sym, refl, ap, ◌∙◌, subst, ⊎_elim, arith, length-append}
+use Rattle.std.proofs.Common.{◌≡◌, ℕ, ◌<◌, ◌≤◌, Bool, not, ◌||◌, List, [], ◌∷◌, ◌++◌, None, sym, refl, ap, ◌∙◌, subst, ⊎_elim, arith}
 use mathlib.Core.Option.{some}
-use Rattle.model.specs.Lists.{any, first, joined, In}
-use Rattle.model.specs.Text.{Choice, one, each, Arrows, Line, n_line, r_line, t_line, TextRule, among, has_arrow, numbers, inside, state_numbers, line_bytes, digit_word, choice_word}
+use Rattle.model.specs.Lists.{any, first, In}
+use Rattle.model.specs.Text.{Arrows, Line, n_line, t_line, TextRule, among, has_arrow, numbers, inside, state_numbers}
 use Rattle.model.specs.Reading.{SoFar, onward, states_so_far, with_arrows}
 use Rattle.model.specs.ReadingLaws.{Correct, Below}
 use Rattle.model.proofs.Lists.{in_append}
 use Rattle.model.proofs.Reading.Basics.{by_test}
 use Rattle.ruletext.specs.Ranges.{first_outside}
-use Rattle.ruletext.specs.Tables.{place, Adds}
+use Rattle.ruletext.specs.Tables.{ArrowTable, has_state, Adds}
+use Rattle.ruletext.specs.declared.table.StateSet.{StateSet}
 use Rattle.ruletext.specs.Standing.{Clear, Drafted, on, step}
-use Rattle.ruletext.proofs.Loops.{words_length}
 use Rattle.ruletext.proofs.Holding.{spot_none, states_below, arrows_below}
 
 module _ (S C line : ℕ) (m next : SoFar) (l : Line) (e : onward m l ≡ some next) where
   pub step_on : first_outside (numbers S C (states_so_far next) l) ≡ None → step S C line m l ≡ on next
   step_on h = let d = spot_none (first (λ k. not (inside k)) (numbers S C (states_so_far next) l)) h in cc
-
--- THE LENGTHS OF LINES
-
-pub r_length : (qs : List ℕ) → length (line_bytes (r_line qs)) ≤ 4096 → 2 + 2 * length qs < 2 ^ 64
-r_length qs h = let a = words_length qs in let b = length-append (joined digit_word qs) (10 ∷ []) in omega arith
-
-choice_length : (u : Choice) → length (choice_word u) ≡ 2
-choice_length (one d) = refl
-choice_length each = refl
-
-pub t_length : (a : Arrows) → length (line_bytes (t_line a)) ≤ 4096 → 8 + 2 * length a.to < 2 ^ 64
-t_length a h =
-    let ends = joined digit_word a.to ++ (10 ∷ []) in
-    let w = words_length a.to in
-    let b = length-append (joined digit_word a.to) (10 ∷ []) in
-    let c = length-append (choice_word a.situation) ends in
-    let d = length-append (choice_word a.command) (choice_word a.situation ++ ends) in
-    let f = length-append (digit_word a.from) (choice_word a.command ++ (choice_word a.situation ++ ends)) in
-    omega (arith, w, b, c, d, f)
 
 -- THE RULE SO FAR
 
@@ -43,17 +24,17 @@ any_push f [] a = by_test (f a) (λ t. cc) (λ t. cc)
 any_push f (x ∷ xs) a = let ih = any_push f xs a in by_test (f x) (λ t. cc) (λ t. cc)
 
 -- behind an r line
-pub rejecting_drafted : (S C : ℕ) (name : List ℕ) (n q : ℕ) (rejecting rejecting' arrows arrows' : List Bool) (qs : List ℕ)
+pub rejecting_drafted : (S C : ℕ) (name : List ℕ) (n q : ℕ) (rejecting rejecting' : StateSet) (arrows : ArrowTable) (qs : List ℕ)
     → Clear rejecting arrows → Correct (n_line name) → 1 ≤ n → n ≤ 8 → q < n → first_outside (state_numbers n 2 qs) ≡ None
-    → ((k : ℕ) → get_or rejecting' k false ≡ (get_or rejecting k false || among qs k)) → arrows' ≡ arrows
-    → Drafted S C name n q rejecting' arrows' (record { name = name; states = n; start = q; rejecting = qs; arrows = [] })
-rejecting_drafted S C name n q rejecting rejecting' arrows arrows' qs clear good low high start ok marks same =
+    → ((k : ℕ) → has_state rejecting' k ≡ (has_state rejecting k || among qs k))
+    → Drafted S C name n q rejecting' arrows (record { name = name; states = n; start = q; rejecting = qs; arrows = [] })
+rejecting_drafted S C name n q rejecting rejecting' arrows qs clear good low high start ok marks =
     record {
       names = refl;
       counts = refl;
       starts = refl;
       rejects = λ k. marks k ∙ ap (λ z. z || among qs k) (clear.0 k);
-      leads = λ q u x p hq hu hx hp. ap (λ z. get_or z (place q u x p) false) same ∙ clear.1 (place q u x p);
+      leads = λ q u x p hq hu hx hp. clear.1 q u x p;
       ranged =
           record {
             named = good;
@@ -65,7 +46,7 @@ rejecting_drafted S C name n q rejecting rejecting' arrows arrows' qs clear good
     }
 
 -- behind a t line
-pub arrows_drafted : (S C : ℕ) (name : List ℕ) (n q : ℕ) (rejecting rejecting' arrows arrows' : List Bool) (r : TextRule) (a : Arrows)
+pub arrows_drafted : (S C : ℕ) (name : List ℕ) (n q : ℕ) (rejecting rejecting' : StateSet) (arrows arrows' : ArrowTable) (r : TextRule) (a : Arrows)
     → Drafted S C name n q rejecting arrows r → first_outside (numbers S C n (t_line a)) ≡ None
     → Adds arrows arrows' (λ q u x p. has_arrow S C q u x p a) → rejecting' ≡ rejecting
     → Drafted S C name n q rejecting' arrows' (with_arrows r a)
@@ -76,7 +57,7 @@ arrows_drafted S C name n q rejecting rejecting' arrows arrows' r a d ok adds sa
       names = d.names;
       counts = d.counts;
       starts = d.starts;
-      rejects = λ k. ap (λ z. get_or z k false) same ∙ d.rejects k;
+      rejects = λ k. ap (λ z. has_state z k) same ∙ d.rejects k;
       leads = λ q u x p hq hu hx hp.
           adds q u x p hq hu hx hp ∙ ap (λ z. z || has_arrow S C q u x p a) (d.leads q u x p hq hu hx hp)
           ∙ sym (any_push (has_arrow S C q u x p) r.arrows a);

@@ -1,13 +1,12 @@
 -- A line whose numbers are in range, in plain words.
-use Rattle.std.proofs.Common.{◌≡◌, ℕ, ◌+◌, ◌<◌, true, List, [], ◌∷◌, ◌++◌, None, refl, inl, inr, arith}
+use Rattle.std.proofs.Common.{◌≡◌, ℕ, ◌+◌, ◌<◌, List, [], ◌∷◌, ◌++◌, None, refl, inl, inr, arith}
 use mathlib.Core.Option as model
-use Rattle.std.proofs.lemmas.Bool.{lt-ltb}
 use Rattle.model.specs.Lists.{first, In}
 use Rattle.model.specs.Text.{Number, Choice, one, each, Arrows, t_line, numbers, state_numbers, choice_number}
 use Rattle.model.specs.ReadingLaws.{Below}
 use Rattle.model.proofs.Lists.{in_left, in_right}
 use Rattle.model.proofs.Reading.Ranges.{AllInside, outside, first_none}
-use Rattle.ruletext.specs.Ranges.{spot, first_outside, below}
+use Rattle.ruletext.specs.Ranges.{spot, first_outside}
 
 pub spot_none : (o : model.Option Number) → spot o ≡ None → o ≡ model.none
 spot_none model.none e = refl
@@ -24,10 +23,6 @@ states_inside n i (p ∷ qs) h q (inr k) = states_inside n (i + 2) qs (λ m d. h
 choice_below : (n i : ℕ) (u : Choice) → AllInside (choice_number n i u) → Below n u
 choice_below n i (one d) h = (h (record { value = d; at = i; least = 0; under = n }) (inl refl)).1
 choice_below n i each h = tt
-
-pub below_true : (n : ℕ) (u : Choice) → Below n u → below n u ≡ true
-below_true n (one d) h = lt-ltb d n h
-below_true n each h = refl
 
 -- the states of an r line
 pub states_below : (n i : ℕ) (qs : List ℕ) → first_outside (state_numbers n i qs) ≡ None → (q : ℕ) → In qs q → q < n

@@ -1,8 +1,8 @@
-pub mod Bytes
+pub mod Same
 pub mod Unrolled
 pub mod Loops
+pub mod Naming
 pub mod Stepping
-pub mod Adding
 pub mod Meeting
 pub mod Holding
 pub mod Going

@@ -1,16 +1,18 @@
 -- The text, line by line.
-use Rattle.std.proofs.Common.{◌≡◌, ℕ, zero, suc, ◌+◌, ◌<◌, ◌≤◌, Bool, true, not, List, [], ◌∷◌, length, drop, sym, refl, ap, ◌∙◌, subst, add-one, arith, length-append, length-drop}
+use Rattle.std.proofs.Common.{◌≡◌, ℕ, zero, suc, ◌+◌, ◌<◌, ◌≤◌, not, List, [], ◌∷◌, length, Ok, sym, refl, ap, ◌∙◌, subst, add-one, arith, length-append}
+use Rattle.std.specs.Borrow.{Bor}
 use mathlib.Core.Option.{Option, none, some}
+use Rattle.model.specs.declared.fault.WordFault.{WordFault}
 use Rattle.model.specs.declared.fault.LineFault.{LineFault}
 use Rattle.model.specs.declared.fault.LineFault.TheVariants.{Word, Order, Range}
 use Rattle.model.specs.declared.fault.ReadFault.TheVariants.{Line as OfLine}
 use Rattle.model.specs.Lists.{first}
-use Rattle.model.specs.Text.{Number, Line, n_line, s_line, r_line, t_line, correct, line_bytes, numbers, inside}
-use Rattle.model.specs.Reading.{Part, part, wrong, first_line, SoFar, nothing, onward, states_so_far, Reading, faulty, read_lines, at_end}
+use Rattle.model.specs.Text.{Number, Line, n_line, s_line, r_line, t_line, line_bytes, numbers, inside}
+use Rattle.model.specs.Reading.{Part, part, wrong, first_line, SoFar, nothing, onward, states_so_far, Reading, faulty, read_lines}
 use Rattle.model.proofs.Reading.Parts.{line_exact}
-use Rattle.ruletext.specs.declared.so_far.SoFar.{SoFar as Far}
-use Rattle.ruletext.specs.declared.so_far.SoFar.TheVariants as far
-use Rattle.ruletext.specs.Standing.{Standing, Clear, stated, on, off, step, Taken, going, stopped, take_line}
+use Rattle.rules.specs.declared.numbers.Numbers.{Numbers}
+use Rattle.ruletext.specs.declared.so_far.Reading.{Reading as Text}
+use Rattle.ruletext.specs.Standing.{Stands, Takes, on, off, step, Taken, going, stopped, take_line}
 
 -- ONE LINE
 
@@ -20,18 +22,14 @@ some_bytes (s_line n q) = omega arith
 some_bytes (r_line qs) = omega arith
 some_bytes (t_line a) = omega arith
 
-pub record Whole (bytes : List ℕ) (l : Line) (j : ℕ) : Type 0 where
-  pub good : correct l ≡ true
-  pub short : length (line_bytes l) ≤ length bytes
-  pub some_byte : 0 < j
-
-pub line_whole : (bytes : List ℕ) (l : Line) (j : ℕ) (rest : List ℕ) → first_line bytes ≡ part l j rest → Whole bytes l j
-line_whole bytes l j rest e =
+-- the bytes behind a line are fewer
+pub line_shorter : (bytes : List ℕ) (l : Line) (j : ℕ) (rest : List ℕ) → first_line bytes ≡ part l j rest → length rest < length bytes
+line_shorter bytes l j rest e =
     let t = (line_exact.0 0 bytes l j rest).0 e in
     let a = ap length t.1 in
     let b = length-append (line_bytes l) rest in
     let c = some_bytes l in
-    record { good = t.0; short = omega arith; some_byte = omega (arith, t.2) }
+    omega arith
 
 module _ (S C line : ℕ) (m : SoFar) (bytes : List ℕ) (l : Line) (j : ℕ) (rest : List ℕ) (e : first_line bytes ≡ part l j rest) where
   pub taken_on : (next : SoFar) → step S C line m l ≡ on next → take_line S C line m bytes ≡ going next rest
@@ -39,6 +37,11 @@ module _ (S C line : ℕ) (m : SoFar) (bytes : List ℕ) (l : Line) (j : ℕ) (r
 
   pub taken_off : (f : LineFault) → step S C line m l ≡ off f → take_line S C line m bytes ≡ stopped f
   taken_off f d = cc
+
+pub wrong_line : (S C line : ℕ) (m : SoFar) (bytes : List ℕ) (w : WordFault) → w.line ≡ line → first_line bytes ≡ wrong w.byte → take_line S C line m bytes ≡ stopped (Word w)
+wrong_line S C line m bytes w l e =
+    let taken : take_line S C line m bytes ≡ stopped (Word (record { line = line; byte = w.byte })) = cc in
+    taken ∙ ap (λ k. stopped (Word (record { line = k; byte = w.byte }))) (sym l)
 
 -- ALL LINES
 
@@ -85,69 +88,61 @@ module _ (S C turns line : ℕ) (m : SoFar) (b : ℕ) (bs : List ℕ) where
   line_stopped f e = by_line ∙ ap after e
 
 -- between two lines: what is left to read, from how far the lines have come
-pub record Lining (S C : ℕ) (text : List ℕ) (far : Far) (line : ℕ) (rest : List ℕ) (rejecting arrows : List Bool) : Type 0 where
+pub record Lining (given : Numbers) (text : List ℕ) (now : Text) (rest : List ℕ) : Type 0 where
+  pub same : now.numbers ≡ given
   pub come : SoFar
   pub turns : ℕ
   pub enough : length rest ≤ turns
-  pub place : read_lines S C (length text) 1 nothing text ≡ read_lines S C turns line come rest
-  pub standing : Standing S C far rejecting arrows come
-  pub counted : 1 ≤ line
-  pub short : line + length rest ≤ 1 + length text
+  pub place : read_lines given.situations given.commands (length text) 1 nothing text ≡ read_lines given.situations given.commands turns now.line come rest
+  pub stands : Stands now come
+  pub short : now.line + length rest ≤ 1 + length text
 
-pub lining_start : (S C : ℕ) (text : List ℕ) (rejecting arrows : List Bool) → Clear rejecting arrows → Lining S C text far.Nothing 1 text rejecting arrows
-lining_start S C text rejecting arrows clear =
-    record { come = nothing; turns = length text; enough = omega arith; place = refl; standing = (refl, clear); counted = omega arith; short = omega arith }
-
-pub standing_small : (S C : ℕ) (far : Far) (rejecting arrows : List Bool) (m : SoFar) → Standing S C far rejecting arrows m → stated far ≤ 8
-standing_small S C far.Nothing rejecting arrows m s = omega arith
-standing_small S C (far.Named name) rejecting arrows m s = omega arith
-standing_small S C (far.Sized name size) rejecting arrows m s = s.4
-standing_small S C (far.Full name size) rejecting arrows m s = let d = s.2 in let c = d.counts in let k = d.ranged.counted in omega (arith, k.1)
-
-module _ (S C : ℕ) (text : List ℕ) (far : Far) (line : ℕ) (rest : List ℕ) (rejecting arrows : List Bool) (t : Lining S C text far line rest rejecting arrows) where
-  more : (r : List ℕ) (n : ℕ) → rest ≡ r → t.turns ≡ n → 0 < length rest → (taken : Taken) → take_line S C line t.come rest ≡ taken
+module _ (given : Numbers) (text : List ℕ) (now : Text) (rest : List ℕ) (t : Lining given text now rest) where
+  more : (S C : ℕ) (r : List ℕ) (n : ℕ) → rest ≡ r → t.turns ≡ n → 0 < length rest → (taken : Taken) → take_line S C now.line t.come rest ≡ taken
       → (k : ℕ) × (suc k ≡ t.turns) × (b : ℕ) × (bs : List ℕ) × (rest ≡ b ∷ bs)
-  more [] n e f h taken d = let z = ap length e in absurd (omega arith)
-  more (b ∷ bs) zero e f h taken d = let z = t.enough in absurd (omega arith)
-  more (b ∷ bs) (suc k) e f h taken d = (k, sym f, b, bs, e)
+  more S C [] n e f h taken d = let z = ap length e in absurd (omega arith)
+  more S C (b ∷ bs) zero e f h taken d = let z = t.enough in absurd (omega arith)
+  more S C (b ∷ bs) (suc k) e f h taken d = (k, sym f, b, bs, e)
 
-  pub lining_stopped : (f : LineFault) → 0 < length rest → take_line S C line t.come rest ≡ stopped f
+  abbrev S : ℕ
+  S = given.situations
+
+  abbrev C : ℕ
+  C = given.commands
+
+  at_given : (taken : Taken) → take_line now.numbers.situations now.numbers.commands now.line t.come rest ≡ taken → take_line S C now.line t.come rest ≡ taken
+  at_given taken e = subst (λ z. take_line z.situations z.commands now.line t.come rest ≡ taken) t.same e
+
+  pub lining_stopped : (f : LineFault) → 0 < length rest → take_line now.numbers.situations now.numbers.commands now.line t.come rest ≡ stopped f
       → read_lines S C (length text) 1 nothing text ≡ faulty (OfLine f)
   lining_stopped f h e =
-      let s = more rest t.turns refl refl h (stopped f) e in
+      let s = more S C rest t.turns refl refl h (stopped f) (at_given (stopped f) e) in
       let k = s.0 in
       let b = s.2 in
       let bs = s.3 in
-      t.place ∙ ap (λ n. read_lines S C n line t.come rest) (sym s.1) ∙ ap (λ z. read_lines S C (suc k) line t.come z) s.4
-      ∙ line_stopped S C k line t.come b bs f (subst (λ z. take_line S C line t.come z ≡ stopped f) s.4 e)
+      t.place ∙ ap (λ n. read_lines S C n now.line t.come rest) (sym s.1) ∙ ap (λ z. read_lines S C (suc k) now.line t.come z) s.4
+      ∙ line_stopped S C k now.line t.come b bs f (subst (λ z. take_line S C now.line t.come z ≡ stopped f) s.4 (at_given (stopped f) e))
 
-  pub lining_more : (next : Far) (rejecting' arrows' : List Bool) (j : ℕ) (m : SoFar) → 0 < length rest → 0 < j → j ≤ length rest
-      → take_line S C line t.come rest ≡ going m (drop j rest) → Standing S C next rejecting' arrows' m
-      → Lining S C text next (line + 1) (drop j rest) rejecting' arrows'
-  lining_more next rejecting' arrows' j m h hj hl e standing =
-      let s = more rest t.turns refl refl h (going m (drop j rest)) e in
+  pub lining_more : (after : Text) (behind : Bor (List ℕ)) → 0 < length rest → after.numbers ≡ now.numbers → after.line ≡ now.line + 1 → length behind.now < length rest
+      → Takes now t.come rest after (Ok behind) → Lining given text after behind.now
+  lining_more after behind h kept next shorter taken =
+      let m = taken.0 in
+      let e = at_given (going m behind.now) taken.1 in
+      let s = more S C rest t.turns refl refl h (going m behind.now) e in
       let k = s.0 in
       let b = s.2 in
       let bs = s.3 in
-      let l = length-drop j rest in
       let a = t.short in
       let n = t.enough in
       record {
+        same = kept ∙ t.same;
         come = m;
         turns = k;
         enough = omega (arith, s.1);
         place =
-            t.place ∙ ap (λ n. read_lines S C n line t.come rest) (sym s.1) ∙ ap (λ z. read_lines S C (suc k) line t.come z) s.4
-            ∙ line_going S C k line t.come b bs m (drop j rest) (subst (λ z. take_line S C line t.come z ≡ going m (drop j rest)) s.4 e)
-            ∙ ap (λ n. read_lines S C k n m (drop j rest)) (sym (add-one line));
-        standing = standing;
-        counted = omega arith;
+            t.place ∙ ap (λ n. read_lines S C n now.line t.come rest) (sym s.1) ∙ ap (λ z. read_lines S C (suc k) now.line t.come z) s.4
+            ∙ line_going S C k now.line t.come b bs m behind.now (subst (λ z. take_line S C now.line t.come z ≡ going m behind.now) s.4 e)
+            ∙ ap (λ n. read_lines S C k n m behind.now) (sym (next ∙ add-one now.line));
+        stands = taken.2;
         short = omega arith;
       }
-
-  pub lining_end : length rest ≡ 0 → read_lines S C (length text) 1 nothing text ≡ at_end S C line t.come
-  lining_end h = t.place ∙ go rest refl
-    where
-      go : (r : List ℕ) → rest ≡ r → read_lines S C t.turns line t.come rest ≡ at_end S C line t.come
-      go [] e = ap (λ z. read_lines S C t.turns line t.come z) e
-      go (b ∷ bs) e = let z = ap length e in absurd (omega arith)

@@ -1,51 +1,45 @@
 -- The search over the states of a rule meets exactly those that are reached.
-use Rattle.std.proofs.Common.{◌≡◌, ℕ, suc, ◌+◌, ◌<◌, ◌≤◌, Bool, true, false, cond, ◌&&◌, eqb, ltb, ◌⊎◌, List, [], ◌∷◌, map, length, get_or, take, Some, None, Decides, Option, sym, refl, ap, ◌∙◌, subst, inl, inr, arith, length-take-le}
-use Rattle.std.specs.List.{range_with_len}
+use Rattle.std.proofs.Common.{◌≡◌, ℕ, suc, ◌+◌, ◌<◌, ◌≤◌, Bool, true, false, cond, ◌&&◌, eqb, ltb, ◌⊎◌, List, [], ◌∷◌, map, length, take, Some, None, Decides, Option, sym, refl, ap, ◌∙◌, subst, inl, inr, arith, length-take-le}
+use Rattle.std.specs.List.{list_any, range_with_len}
 use Rattle.std.proofs.lemmas.List.FromFn.{length-range_with_len}
-use Rattle.std.proofs.lemmas.Bool.{eq-eqb, eqb-true, lt-ltb, le-ltb, ltb-true, and_parts, and_from, both_ways, cases_Bool}
-use Rattle.std.proofs.lemmas.Bool.Decides.{Decides-eqb, Decides-like, same_from_decides}
+use Rattle.std.proofs.lemmas.Bool.{eq-eqb, eqb-true, lt-ltb, ltb-true, and_parts, and_from, both_ways, cases_Bool}
+use Rattle.std.proofs.lemmas.Bool.Decides.{Decides-eqb, Decides-like}
 use Rattle.model.specs.Automaton.{Automaton}
 use Rattle.model.specs.Lists.{any, In}
 use Rattle.model.specs.Search.{reached_from}
 use Rattle.model.specs.SearchLaws.{Leads, here, further}
 use Rattle.model.specs.ReadingLaws.{Reached, at_start, by_arrow, AllReached}
 use Rattle.model.proofs.Lists.{in_map, map_in, in_counting, counting_in, decides_any, pigeons}
+use Rattle.model.proofs.Reading.Basics.{by_test}
 use Rattle.model.proofs.Reading.Reached.{distinct_counting}
 use Rattle.model.proofs.Searches.{decides_met, Listed, Over, Result, searched}
 use Rattle.search.specs.Meeting.{present, successors, Found}
-use Rattle.ruletext.specs.Tables.{place, automaton, Within, Led, led, follower}
+use Rattle.ruletext.specs.declared.table.StateSet.{StateSet}
+use Rattle.ruletext.specs.Tables.{ArrowTable, arrow, automaton, Within, Led, led, follower}
 
 -- THE ARROWS OF THE GRAPH
 
-module _ (arrows : List Bool) where
-  pub decides_led : (q p : ℕ) → Decides (led arrows q p) (Led arrows q p)
-  unfolding led
+same_any : {X : Type 0} (f : X → Bool) (xs : List X) → list_any f xs ≡ any f xs
+same_any f [] = refl
+same_any f (x ∷ xs) = let ih = same_any f xs in by_test (f x) (λ t. cc) (λ t. cc)
+
+decides_list_any : {X : Type 0} (f : X → Bool) (P : X → Type 0) → ((x : X) → Decides (f x) (P x)) → (xs : List X) → Decides (list_any f xs) ((x : X) × In xs x × P x)
+decides_list_any f P h xs = subst (λ b. Decides b ((x : _) × In xs x × P x)) (sym (same_any f xs)) (decides_any f P h xs)
+
+module _ (arrows : ArrowTable) where
+  decides_led : (q p : ℕ) → Decides (led arrows q p) (Led arrows q p)
   decides_led q p =
-      Decides-like (any (λ u. any (λ x. get_or arrows (place q u x p) false) (range_with_len 0 8)) (range_with_len 0 8))
+      Decides-like (led arrows q p)
       (λ r. let (u, i, s) = r in let (x, j, e) = s in (u, x, omega (arith, (counting_in 0 8 u i).1), omega (arith, (counting_in 0 8 x j).1), e))
       (λ r. let (u, x, hu, hx, e) = r in (u, in_counting 0 8 u (omega arith) (omega arith), (x, in_counting 0 8 x (omega arith) (omega arith), e)))
-      (decides_any (λ u. any (λ x. get_or arrows (place q u x p) false) (range_with_len 0 8)) (λ u. (x : ℕ) × In (range_with_len 0 8) x × (get_or arrows (place q u x p) false ≡ true))
-      (λ u. decides_any (λ x. get_or arrows (place q u x p) false) (λ x. get_or arrows (place q u x p) false ≡ true) (λ x. ((λ e. e), (λ e. e))) (range_with_len 0 8)) (range_with_len 0 8))
+      (decides_list_any (λ u. list_any (λ x. arrow arrows q u x p) (range_with_len 0 8)) (λ u. (x : ℕ) × In (range_with_len 0 8) x × (arrow arrows q u x p ≡ true))
+      (λ u. decides_list_any (λ x. arrow arrows q u x p) (λ x. arrow arrows q u x p ≡ true) (λ x. ((λ e. e), (λ e. e))) (range_with_len 0 8)) (range_with_len 0 8))
 
-  -- a test that decides it is the definition's
-  pub as_led : (r : Bool) (q p : ℕ) → Decides r (Led arrows q p) → r ≡ led arrows q p
-  as_led r q p d = same_from_decides r (led arrows q p) d (decides_led q p)
-
-  pub follower_there : (q p : ℕ) → q < 8 → led arrows q p ≡ true → follower arrows q p ≡ Some p
+  follower_there : (q p : ℕ) → q < 8 → led arrows q p ≡ true → follower arrows q p ≡ Some p
   follower_there q p h e = ap (λ b. cond b (Some p) None) (and_from (ltb q 8) (led arrows q p) (lt-ltb q 8 h) e)
 
-  pub follower_not : (q p : ℕ) → (ltb q 8 && led arrows q p) ≡ false → follower arrows q p ≡ None
+  follower_not : (q p : ℕ) → (ltb q 8 && led arrows q p) ≡ false → follower arrows q p ≡ None
   follower_not q p e = ap (λ b. cond b (Some p) None) e
-
-  pub not_led : (q p : ℕ) → led arrows q p ≡ false → follower arrows q p ≡ None
-  not_led q p e = go (cases_Bool (ltb q 8))
-    where
-      go : (ltb q 8 ≡ true) ⊎ (ltb q 8 ≡ false) → follower arrows q p ≡ None
-      go (inl t) = follower_not q p (rw (t, e))
-      go (inr n) = follower_not q p (rw n)
-
-  pub not_below : (q p : ℕ) → 8 ≤ q → follower arrows q p ≡ None
-  not_below q p h = follower_not q p (rw (le-ltb q 8 h))
 
 in_present : (os : List (Option ℕ)) (y : ℕ) → In os (Some y) → In (present os) y
 in_present [] y i = absurd i
@@ -60,7 +54,7 @@ present_in (None ∷ os) y i = inr (present_in os y i)
 present_in (Some x ∷ os) y (inl e) = inl (ap Some e)
 present_in (Some x ∷ os) y (inr i) = inr (present_in os y i)
 
-module _ (arrows : List Bool) (start : ℕ) where
+module _ (arrows : ArrowTable) (start : ℕ) where
   abbrev next : ℕ → List ℕ
   next q = successors 8 (follower arrows) q
 
@@ -83,13 +77,13 @@ module _ (arrows : List Bool) (start : ℕ) where
       (subst (λ o. In (map (follower arrows q) (range_with_len 0 8)) o) (follower_there arrows q p hq ((decides_led arrows q p).1 l))
       (in_map (follower arrows q) (range_with_len 0 8) p (in_counting 0 8 p (omega arith) (omega arith))))
 
-  module _ (S C n : ℕ) (rejecting : List Bool) (hn : n ≤ 8) (hs : start < n) (inside : Within S C n arrows) where
+  module _ (S C n : ℕ) (rejecting : StateSet) (hn : n ≤ 8) (hs : start < n) (inside : Within S C n arrows) where
     abbrev A : Automaton
     A = automaton S C n start rejecting arrows
 
-    follows_true : (q u x p : ℕ) → q < 8 → u < 8 → x < 8 → p < 8 → get_or arrows (place q u x p) false ≡ true → A.follows q u x p ≡ true
+    follows_true : (q u x p : ℕ) → q < 8 → u < 8 → x < 8 → p < 8 → arrow arrows q u x p ≡ true → A.follows q u x p ≡ true
     follows_true q u x p hq hu hx hp e =
-        and_from (ltb q 8 && (ltb u 8 && (ltb x 8 && ltb p 8))) (get_or arrows (place q u x p) false)
+        and_from (ltb q 8 && (ltb u 8 && (ltb x 8 && ltb p 8))) (arrow arrows q u x p)
         (and_from (ltb q 8) (ltb u 8 && (ltb x 8 && ltb p 8)) (lt-ltb q 8 hq)
         (and_from (ltb u 8) (ltb x 8 && ltb p 8) (lt-ltb u 8 hu) (and_from (ltb x 8) (ltb p 8) (lt-ltb x 8 hx) (lt-ltb p 8 hp))))
         e
@@ -101,13 +95,13 @@ module _ (arrows : List Bool) (start : ℕ) where
         let k = inside w u x z hw hu hx hz e in
         by_arrow u x z (leads_reached way) k.1 (record { known = k.2; inside = k.3; follows = follows_true w u x z hw hu hx hz e })
       where
-        flat : (w z : ℕ) → (w < 8) × (z < 8) × Led arrows w z → (w < 8) × (z < 8) × (u : ℕ) × (x : ℕ) × (u < 8) × (x < 8) × (get_or arrows (place w u x z) false ≡ true)
+        flat : (w z : ℕ) → (w < 8) × (z < 8) × Led arrows w z → (w < 8) × (z < 8) × (u : ℕ) × (x : ℕ) × (u < 8) × (x < 8) × (arrow arrows w u x z ≡ true)
         flat w z (a, b, (u, x, hu, hx, e)) = (a, b, u, x, hu, hx, e)
 
     reached_leads : {q : ℕ} → Reached A q → Leads next start q
     reached_leads (at_start {q} s) = subst (λ z. Leads next start z) (sym (eqb-true q start s.starts)) here
     reached_leads (by_arrow {q = w} u x z way h f) =
-        let p = and_parts (ltb w 8 && (ltb u 8 && (ltb x 8 && ltb z 8))) (get_or arrows (place w u x z) false) f.follows in
+        let p = and_parts (ltb w 8 && (ltb u 8 && (ltb x 8 && ltb z 8))) (arrow arrows w u x z) f.follows in
         let a = and_parts (ltb w 8) (ltb u 8 && (ltb x 8 && ltb z 8)) p.0 in
         let b = and_parts (ltb u 8) (ltb x 8 && ltb z 8) a.1 in
         let c = and_parts (ltb x 8) (ltb z 8) b.1 in

@@ -1,49 +1,80 @@
--- Words taken two bytes at a time.
-use Rattle.std.proofs.Common.{◌≡◌, ℕ, ◌+◌, ◌-◌, ◌<◌, ◌≤◌, Bool, true, false, ◌||◌, eqb, List, [], ◌∷◌, length, get_or, take, drop, set, Some, sym, refl, ap, ◌∙◌, subst, arith}
-use Rattle.std.proofs.lemmas.Bool.{le-ltb, lt-ltb, eqb-true, eqb-false, le-leb}
-use Rattle.std.proofs.lemmas.List.{take_all, get_or-set_same, get_or-set_other}
-use Rattle.model.specs.Text.{state_numbers}
+-- The states that words name, word by word.
+use Rattle.std.proofs.Common.{◌≡◌, ℕ, suc, ◌+◌, ◌*◌, ◌<◌, ◌≤◌, Bool, true, false, ◌||◌, cond, eqb, leb, ltb, List, [], ◌∷◌, length, get_or, drop, set, Some, None, Option, sym, refl, ap, ◌∙◌, subst, arith}
+use Rattle.std.specs.List.{position, position_or_len}
+use Rattle.std.proofs.lemmas.Bool.{le-ltb, lt-ltb, ltb-true, ltb-false, eqb-true, eqb-false, le-leb, leb-true, leb-false}
+use Rattle.std.proofs.lemmas.List.{get_or-set_same, get_or-set_other, drop_more}
+use Rattle.model.specs.Text.{state_numbers, among}
 use Rattle.model.proofs.Reading.Basics.{by_test}
-use Rattle.ruletext.specs.Lines.{states_of}
+use Rattle.ruletext.specs.Lines.{digit_of, states_of}
 use Rattle.ruletext.specs.Ranges.{first_outside}
-use Rattle.ruletext.specs.Tables.{shifted}
-
-pub states_two : (l : List ℕ) → 2 ≤ length l → states_of l ≡ (get_or l 1 0 - 48) ∷ states_of (take (length l - 2) (drop 2 l))
-states_two [] h = absurd (omega arith)
-states_two (a ∷ []) h = absurd (omega arith)
-states_two (a ∷ d ∷ rest) h = ap (λ z. (d - 48) ∷ states_of z) (sym (take_all (length (a ∷ d ∷ rest) - 2) rest (omega arith)))
-
-pub states_none : (l : List ℕ) → length l < 2 → states_of l ≡ []
-states_none [] h = refl
-states_none (a ∷ []) h = refl
-states_none (a ∷ d ∷ rest) h = absurd (omega arith)
 
 -- the first of the states lies outside, or not
-pub outside_here : (n i q : ℕ) (qs : List ℕ) → n ≤ q → first_outside (state_numbers n i (q ∷ qs)) ≡ Some i
+outside_here : (n i q : ℕ) (qs : List ℕ) → n ≤ q → first_outside (state_numbers n i (q ∷ qs)) ≡ Some i
 outside_here n i q qs h = let t = le-ltb q n h in let z = le-leb 0 q (omega arith) in cc
 
-pub outside_later : (n i q : ℕ) (qs : List ℕ) → q < n → first_outside (state_numbers n i (q ∷ qs)) ≡ first_outside (state_numbers n (i + 2) qs)
+outside_later : (n i q : ℕ) (qs : List ℕ) → q < n → first_outside (state_numbers n i (q ∷ qs)) ≡ first_outside (state_numbers n (i + 2) qs)
 outside_later n i q qs h = let t = lt-ltb q n h in let z = le-leb 0 q (omega arith) in cc
 
+-- the first word of which the state is too large, as its byte
+module _ (n : ℕ) where
+  abbrev too_large : List ℕ → Bool
+  too_large word = leb n (digit_of word)
+
+  abbrev byte_at : ℕ → Option ℕ → Option ℕ
+  byte_at i None = None
+  byte_at i (Some k) = Some (i + 2 * k)
+
+  abbrev first_from : List (List ℕ) → Option ℕ
+  first_from words = cond (ltb (position_or_len too_large words) (length words)) (Some (position_or_len too_large words)) None
+
+  outside_position : (i : ℕ) (words : List (List ℕ)) → first_outside (state_numbers n i (states_of words)) ≡ byte_at i (first_from words)
+  outside_position i [] = refl
+  outside_position i (w ∷ ws) =
+      by_test (leb n (digit_of w))
+      (λ t.
+      let here : position_or_len too_large (w ∷ ws) ≡ 0 = rw t in
+      let at : first_from (w ∷ ws) ≡ Some 0 = ap (λ k. cond (ltb k (suc (length ws))) (Some k) None) here ∙ ap (λ b. cond b (Some 0) None) (lt-ltb 0 (suc (length ws)) (omega arith)) in
+      let none : i + 2 * 0 ≡ i = omega arith in
+      outside_here n i (digit_of w) (states_of ws) (leb-true n (digit_of w) t) ∙ sym (ap (byte_at i) at ∙ ap Some none))
+      (λ t.
+      let one : 1 + position_or_len too_large ws ≡ suc (position_or_len too_large ws) = omega arith in
+      let there : position_or_len too_large (w ∷ ws) ≡ suc (position_or_len too_large ws) = rw t one in
+      outside_later n i (digit_of w) (states_of ws) (leb-false n (digit_of w) t) ∙ outside_position (i + 2) ws
+      ∙ later (position_or_len too_large ws) ∙ sym (ap (λ k. byte_at i (cond (ltb k (suc (length ws))) (Some k) None)) there))
+    where
+      later : (k : ℕ) → byte_at (i + 2) (cond (ltb k (length ws)) (Some k) None) ≡ byte_at i (cond (ltb (suc k) (suc (length ws))) (Some (suc k)) None)
+      later k =
+          by_test (ltb k (length ws))
+          (λ t. let u = lt-ltb (suc k) (suc (length ws)) (omega (arith, ltb-true k (length ws) t)) in let e : i + 2 + 2 * k ≡ i + 2 * suc k = omega arith in
+          ap (λ b. byte_at (i + 2) (cond b (Some k) None)) t ∙ ap Some e ∙ sym (ap (λ b. byte_at i (cond b (Some (suc k)) None)) u))
+          (λ t. let u = le-ltb (suc k) (suc (length ws)) (omega (arith, ltb-false k (length ws) t)) in
+          ap (λ b. byte_at (i + 2) (cond b (Some k) None)) t ∙ sym (ap (λ b. byte_at i (cond b (Some (suc k)) None)) u))
+
+  pub outside_none : (i : ℕ) (words : List (List ℕ)) → position too_large words ≡ None → first_outside (state_numbers n i (states_of words)) ≡ None
+  outside_none i words e = outside_position i words ∙ ap (byte_at i) e
+
+  pub outside_some : (i k : ℕ) (words : List (List ℕ)) → position too_large words ≡ Some k → first_outside (state_numbers n i (states_of words)) ≡ Some (i + 2 * k)
+  outside_some i k words e = outside_position i words ∙ ap (byte_at i) e
+
+-- the next word taken off
+pub word_off : (words : List (List ℕ)) (i : ℕ) → i < length words → states_of (drop i words) ≡ digit_of (get_or words i []) ∷ states_of (drop (i + 1) words)
+word_off words i h = ap states_of (drop_more words i [] h)
+
 -- one state marked
-pub marked_more : (marks : List Bool) (first q : ℕ) (qs : List ℕ) (k : ℕ) → first + q < length marks
-    → (get_or (set marks (first + q) true) k false || shifted first qs k) ≡ (get_or marks k false || shifted first (q ∷ qs) k)
-marked_more marks first q qs k h =
-    by_test (eqb k (first + q))
+pub marked_more : (marks : List Bool) (q : ℕ) (qs : List ℕ) (p : ℕ) → q < length marks
+    → (get_or (set marks q true) p false || among qs p) ≡ (get_or marks p false || among (q ∷ qs) p)
+marked_more marks q qs p h =
+    by_test (eqb p q)
     (λ t.
-    let e = eqb-true k (first + q) t in
-    let s : get_or (set marks (first + q) true) k false ≡ true = subst (λ z. get_or (set marks (first + q) true) z false ≡ true) (sym e) (get_or-set_same marks (first + q) true false h) in
-    let r : shifted first (q ∷ qs) k ≡ true = cc in
-    ap (λ z. z || shifted first qs k) s ∙ sym (ap (λ z. get_or marks k false || z) r ∙ or_true (get_or marks k false)))
+    let e = eqb-true p q t in
+    let s : get_or (set marks q true) p false ≡ true = subst (λ z. get_or (set marks q true) z false ≡ true) (sym e) (get_or-set_same marks q true false h) in
+    let r : among (q ∷ qs) p ≡ true = cc in
+    ap (λ z. z || among qs p) s ∙ sym (ap (λ z. get_or marks p false || z) r ∙ or_true (get_or marks p false)))
     (λ t.
-    let s = get_or-set_other marks (first + q) k true false (eqb-false k (first + q) t) in
-    let r : shifted first (q ∷ qs) k ≡ shifted first qs k = cc in
-    ap (λ z. z || shifted first qs k) s ∙ ap (λ z. get_or marks k false || z) (sym r))
+    let s = get_or-set_other marks q p true false (eqb-false p q t) in
+    let r : among (q ∷ qs) p ≡ among qs p = cc in
+    ap (λ z. z || among qs p) s ∙ ap (λ z. get_or marks p false || z) (sym r))
   where
     or_true : (b : Bool) → (b || true) ≡ true
     or_true true = refl
     or_true false = refl
-
-pub or_false : (b : Bool) → (b || false) ≡ b
-or_false true = refl
-or_false false = refl

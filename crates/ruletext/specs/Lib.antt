@@ -1,3 +1,5 @@
+pub mod Names
+pub mod Classes
 pub mod Tokens
 pub mod Lines
 pub mod Ranges

@@ -1,54 +1,43 @@
 -- What a reader of the code answers, held to the model's reader.
-use Rattle.std.specs.Prelude.{◌≡◌, ℕ, ◌≤◌, Bool, ◌||◌, List, length, drop, Ok, Err, Result, ◌==◌}
-use Rattle.std.specs.Borrow.{Bor}
+use Rattle.std.specs.Prelude.{◌≡◌, ℕ, true, List, Ok, Err, Result}
 use Rattle.model.specs.declared.fault.WordFault.{WordFault}
-use Rattle.model.specs.Text.{Line, n_line, one, each, digit_byte, name_byte}
-use Rattle.model.specs.Reading.{Reader, part, wrong, byte, digit, choice, n_words, letter}
-use Rattle.ruletext.specs.declared.token.Class.{Class}
-use Rattle.ruletext.specs.declared.token.Class.TheVariants as class
-use Rattle.ruletext.specs.declared.token.Due.{Due}
-use Rattle.ruletext.specs.declared.token.Due.TheVariants as due
+use Rattle.model.specs.Text.{Line, n_line, Choice, one, each, good_name}
+use Rattle.model.specs.Reading.{Reader, Part, part, wrong}
+use Rattle.ruletext.specs.declared.token.Cursor.{Cursor}
 use Rattle.ruletext.specs.declared.token.Token.{Token}
 use Rattle.ruletext.specs.declared.token.Token.TheVariants.{Letter, Name, Digit, Star}
 
--- at byte i of the line with this number: the part, and the byte behind it; or the fault at the byte where it is wrong
-abbrev pub Reads : {X Y : Type 0} → Reader X → (Y → X) → List ℕ → ℕ → ℕ → Result (Y × ℕ) WordFault → Type 0
-Reads f value text line i (Ok v) = (v.1 ≤ length text) × (f i (drop i text) ≡ part (value v.0) v.1 (drop v.1 text))
-Reads f value text line i (Err w) = (w.line ≡ line) × (f i (drop i text) ≡ wrong w.byte)
+-- from one place of a line to the next: the part that stands between them; or the fault at the byte where it is wrong
+abbrev pub Reads : {X Y : Type 0} → Reader X → (Y → X) → Cursor → Cursor → Result Y WordFault → Type 0
+Reads f value c d (Ok y) = (d.line ≡ c.line) × (f c.at c.rest.now ≡ part (value y) d.at d.rest.now)
+Reads f value c d (Err w) = (w.line ≡ c.line) × (f c.at c.rest.now ≡ wrong w.byte)
 
-abbrev pub same : ℕ → ℕ
-same n = n
+-- the same for a token, which is that part in the way that the test says
+abbrev pub Tokens : {X : Type 0} → Reader X → (Token → Part X → ℕ → List ℕ → Type 0) → Cursor → Cursor → Result Token WordFault → Type 0
+Tokens f is c d (Ok t) = (d.line ≡ c.line) × is t (f c.at c.rest.now) d.at d.rest.now
+Tokens f is c d (Err w) = (w.line ≡ c.line) × (f c.at c.rest.now ≡ wrong w.byte)
 
--- the bytes of a class
-abbrev pub passing : Class → ℕ → Bool
-passing class.Space b = 32 == b
-passing class.End b = 10 == b
-passing class.Digit b = digit_byte b
-passing class.Choice b = digit_byte b || b == 42
-passing class.Name b = name_byte b
-passing class.Letter b = letter b
+-- a letter, a name, a digit, or a digit or a star, with the byte j and the bytes behind it; and no other token
+abbrev pub IsLetter : Token → Part ℕ → ℕ → List ℕ → Type 0
+IsLetter (Letter c) o j rest = o ≡ part c j rest
+IsLetter (Name n) o j rest = ⊥
+IsLetter (Digit d) o j rest = ⊥
+IsLetter Star o j rest = ⊥
 
-abbrev pub name_line : Bor (List ℕ) → Line
-name_line name = n_line name.now
+abbrev pub IsName : Token → Part Line → ℕ → List ℕ → Type 0
+IsName (Letter c) o j rest = ⊥
+IsName (Name n) o j rest = (o ≡ part (n_line n.now) j rest) × (good_name n.now ≡ true)
+IsName (Digit d) o j rest = ⊥
+IsName Star o j rest = ⊥
 
--- the token that is due stands at byte i, with the byte j and the bytes behind it; no other token does
-abbrev pub Stands : Due → Token → ℕ → List ℕ → ℕ → List ℕ → Type 0
-Stands due.Letter t i bytes j rest =
-    elim t [ Letter c ↦ byte letter i bytes ≡ part c j rest | Name n ↦ ⊥ | Digit d ↦ ⊥ | Star ↦ ⊥ ]
-Stands due.Name t i bytes j rest =
-    elim t [ Letter c ↦ ⊥ | Name n ↦ n_words i bytes ≡ part (n_line n.now) j rest | Digit d ↦ ⊥ | Star ↦ ⊥ ]
-Stands due.Digit t i bytes j rest =
-    elim t [ Letter c ↦ ⊥ | Name n ↦ ⊥ | Digit d ↦ digit i bytes ≡ part d j rest | Star ↦ ⊥ ]
-Stands due.Choice t i bytes j rest =
-    elim t [ Letter c ↦ ⊥ | Name n ↦ ⊥ | Digit d ↦ choice i bytes ≡ part (one d) j rest | Star ↦ choice i bytes ≡ part each j rest ]
+abbrev pub IsDigit : Token → Part ℕ → ℕ → List ℕ → Type 0
+IsDigit (Letter c) o j rest = ⊥
+IsDigit (Name n) o j rest = ⊥
+IsDigit (Digit d) o j rest = o ≡ part d j rest
+IsDigit Star o j rest = ⊥
 
--- the token that is due is wrong at byte j
-abbrev pub Fails : Due → ℕ → List ℕ → ℕ → Type 0
-Fails due.Letter i bytes j = byte letter i bytes ≡ wrong j
-Fails due.Name i bytes j = n_words i bytes ≡ wrong j
-Fails due.Digit i bytes j = digit i bytes ≡ wrong j
-Fails due.Choice i bytes j = choice i bytes ≡ wrong j
-
-abbrev pub Tokens : Due → List ℕ → ℕ → ℕ → Result (Token × ℕ) WordFault → Type 0
-Tokens due text line i (Ok v) = (v.1 ≤ length text) × Stands due v.0 i (drop i text) v.1 (drop v.1 text)
-Tokens due text line i (Err w) = (w.line ≡ line) × Fails due i (drop i text) w.byte
+abbrev pub IsChoice : Token → Part Choice → ℕ → List ℕ → Type 0
+IsChoice (Letter c) o j rest = ⊥
+IsChoice (Name n) o j rest = ⊥
+IsChoice (Digit d) o j rest = o ≡ part (one d) j rest
+IsChoice Star o j rest = o ≡ part each j rest

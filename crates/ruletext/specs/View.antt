@@ -1,20 +1,21 @@
 -- A read rule as the model has it.
-use Rattle.std.specs.Prelude.{◌≡◌, ℕ, Bool, true, false, List, [], take, Ok, Err, Result, ◌==◌}
+use Rattle.std.specs.Prelude.{◌≡◌, ℕ, Bool, true, false, List, [], Some, None, Ok, Err, Result}
 use Rattle.model.specs.declared.fault.ReadFault.{ReadFault}
 use Rattle.model.specs.Text.{TextRule, ReadRule as Rule, blank, filled, named_rule}
 use Rattle.model.specs.Reading.{Reading, reads, faulty}
 use Rattle.ruletext.specs.declared.rule.ReadRule.{ReadRule}
+use Rattle.ruletext.specs.Names.{spelled}
 use Rattle.ruletext.specs.Tables.{automaton}
 
--- one without a state is blank; any other has its name, and the rule of its fields
+-- a whole one has its name, and the rule of its fields
 abbrev pub view : ReadRule → Rule
 view r =
-    elim (r.states == 0) [
-      | true ↦ blank
-      | false ↦
+    elim r.whole [
+      | None ↦ blank
+      | Some w ↦
           filled (record {
-            name = take r.letters r.name;
-            rule = automaton r.situations r.commands r.states r.start r.table.rejecting r.table.arrows;
+            name = spelled w.name;
+            rule = automaton w.numbers.situations w.numbers.commands w.states.count w.states.start w.table.rejecting w.table.arrows;
           })
     ]
 

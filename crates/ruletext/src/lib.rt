@@ -3,6 +3,7 @@
 #![tactic(auto)]
 
 pub mod line;
+pub mod name;
 pub mod range;
 pub mod reach;
 pub mod read;

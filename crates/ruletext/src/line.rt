@@ -1,10 +1,14 @@
 //! The lines of a text, word by word.
 
-ghost use Rattle.model.specs.Reading.{byte as model_byte, letter as model_letter, n_words, digit as model_digit, choice as model_choice, digits as model_digits, s_words, r_words, t_words};
-ghost use Rattle.ruletext.specs.Tokens.{Reads, same, name_line};
-ghost use Rattle.ruletext.specs.Lines.{picked, size_line, states_in, rejects_line, arrows_line, line_of, line_reader};
+ghost use Rattle.std.specs.Prelude.{◌≡◌};
+ghost use Rattle.model.specs.Reading.{n_words, digit as model_digit, choice as model_choice, digits as model_digits, s_words, r_words, t_words};
+ghost use Rattle.ruletext.specs.Classes.{same};
+ghost use Rattle.ruletext.specs.Lines.{picked, ReadsLine};
+ghost use Rattle.ruletext.specs.Ranges.{below};
+ghost use Rattle.ruletext.specs.Tables.{taken};
 
-use crate::token::{Class, Due, Token, byte, word};
+use crate::name::Name;
+use crate::token::{Class, Cursor, Token};
 use model::fault::WordFault;
 
 /// A digit, or `*` for every one.
@@ -12,6 +16,28 @@ use model::fault::WordFault;
 pub enum Choice {
     One(u8),
     Each,
+}
+
+impl Choice {
+    /// Whether a digit is below `n`; `*` always is.
+    pub(crate) fn is_below(self, n: u8) -> bool
+        ensures { result ≡ below n (picked self) }
+    {
+        match self {
+            Choice::One(d) => d < n,
+            Choice::Each => true,
+        }
+    }
+
+    /// Whether a number is the digit; each is one that `*` takes.
+    pub(crate) fn takes(self, n: u8) -> bool
+        ensures { result ≡ taken (picked self) n }
+    {
+        match self {
+            Choice::One(d) => d == n,
+            Choice::Each => true,
+        }
+    }
 }
 
 /// The words of an s line.
@@ -24,7 +50,7 @@ pub struct Size {
 /// The states of an r line: the part of the text with their words.
 #[derive(Clone, Copy)]
 pub struct Rejects<'a> {
-    pub states: &'a [u8],
+    pub states: &'a [[u8; 2]],
 }
 
 /// The words of a t line; the states that follow are the part of the text with their words.
@@ -33,144 +59,117 @@ pub struct Arrows<'a> {
     pub from: u8,
     pub command: Choice,
     pub situation: Choice,
-    pub to: &'a [u8],
+    pub to: &'a [[u8; 2]],
 }
 
-/// A line; the name of an n line is its part of the text.
+/// A line.
 #[derive(Clone, Copy)]
 pub enum Line<'a> {
-    Name(&'a [u8]),
+    Name(Name),
     Size(Size),
     Rejects(Rejects<'a>),
     Arrows(Arrows<'a>),
 }
 
-// The letter of a line.
-fn letter(text: &[u8], line: usize) -> Result<(char, usize), WordFault>
-    ensures { Reads (model_byte model_letter) same text.now line 0 result }
-{
-    let (found, next) = word(text, line, 0, Due::Letter)?;
-    match found {
-        Token::Letter(c) => Ok((c, next)),
-        Token::Name(_) => unreachable(),
-        Token::Digit(_) => unreachable(),
-        Token::Star => unreachable(),
+impl<'a> Cursor<'a> {
+    ghost use Rattle.ruletext.specs.Tokens.{Reads};
+    ghost use Rattle.ruletext.specs.Lines.{name_line, size_line, states_in, rejects_line, arrows_line, line_of, line_reader};
+
+    // A space, and a digit behind it.
+    fn number(&mut self) -> Result<u8, WordFault>
+        ensures { Reads model_digit same self.old self.new result }
+    {
+        let Token::Digit(d) = self.digit()? else {
+            unreachable()
+        };
+        Ok(d)
     }
-}
 
-// The name of an n line, and the line's end.
-fn name_words<'a>(text: &'a [u8], line: usize, at: usize) -> Result<(&'a [u8], usize), WordFault>
-    ensures { Reads n_words name_line text.now line at result }
-{
-    let (found, next) = word(text, line, at, Due::Name)?;
-    match found {
-        Token::Name(name) => Ok((name, next)),
-        Token::Letter(_) => unreachable(),
-        Token::Digit(_) => unreachable(),
-        Token::Star => unreachable(),
-    }
-}
-
-// One space, and a digit behind it.
-fn digit(text: &[u8], line: usize, at: usize) -> Result<(u8, usize), WordFault>
-    ensures { Reads model_digit same text.now line at result }
-{
-    let (found, next) = word(text, line, at, Due::Digit)?;
-    match found {
-        Token::Digit(d) => Ok((d, next)),
-        Token::Letter(_) => unreachable(),
-        Token::Name(_) => unreachable(),
-        Token::Star => unreachable(),
-    }
-}
-
-// One space, and a digit or `*` behind it.
-fn pick(text: &[u8], line: usize, at: usize) -> Result<(Choice, usize), WordFault>
-    ensures { Reads model_choice picked text.now line at result }
-{
-    let (found, next) = word(text, line, at, Due::Choice)?;
-    match found {
-        Token::Digit(d) => Ok((Choice::One(d), next)),
-        Token::Star => Ok((Choice::Each, next)),
-        Token::Letter(_) => unreachable(),
-        Token::Name(_) => unreachable(),
-    }
-}
-
-// The words of an s line, and its end.
-fn size_words(text: &[u8], line: usize, at: usize) -> Result<(Size, usize), WordFault>
-    ensures { Reads s_words size_line text.now line at result }
-{
-    let (states, at) = digit(text, line, at)?;
-    let (start, at) = digit(text, line, at)?;
-    let (_, at) = byte(text, line, at, Class::End)?;
-    Ok((Size { states, start }, at))
-}
-
-// Any number of digits up to the line end: the part of the text with their words.
-fn digits<'a>(text: &'a [u8], line: usize, at: usize) -> Result<(&'a [u8], usize), WordFault>
-    ensures { Reads model_digits states_in text.now line at result }
-{
-    let start = at;
-    let mut end = at;
-    while end < text.len() && text[end] != b'\n' {
-        let (_, next) = digit(text, line, end)?;
-        end = next;
-    }
-    let (_, behind) = byte(text, line, end, Class::End)?;
-    Ok((&text[start..end], behind))
-}
-
-// The words of an r line, and its end.
-fn reject_words<'a>(
-    text: &'a [u8],
-    line: usize,
-    at: usize,
-) -> Result<(Rejects<'a>, usize), WordFault>
-    ensures { Reads r_words rejects_line text.now line at result }
-{
-    let (states, at) = digits(text, line, at)?;
-    Ok((Rejects { states }, at))
-}
-
-// The words of a t line, and its end.
-fn arrow_words<'a>(text: &'a [u8], line: usize, at: usize) -> Result<(Arrows<'a>, usize), WordFault>
-    ensures { Reads t_words arrows_line text.now line at result }
-{
-    let (from, at) = digit(text, line, at)?;
-    let (command, at) = pick(text, line, at)?;
-    let (situation, at) = pick(text, line, at)?;
-    let (to, at) = digits(text, line, at)?;
-    let arrows = Arrows {
-        from,
-        command,
-        situation,
-        to,
-    };
-    Ok((arrows, at))
-}
-
-/// The first line of the text, whose number is `line`, and the byte behind it.
-pub fn first_line<'a>(text: &'a [u8], line: usize) -> Result<(Line<'a>, usize), WordFault>
-    ensures { Reads line_reader line_of text.now line 0 result }
-{
-    let (b, at) = letter(text, line)?;
-    match b {
-        'n' => {
-            let (name, at) = name_words(text, line, at)?;
-            Ok((Line::Name(name), at))
-        }
-        's' => {
-            let (size, at) = size_words(text, line, at)?;
-            Ok((Line::Size(size), at))
-        }
-        'r' => {
-            let (rejects, at) = reject_words(text, line, at)?;
-            Ok((Line::Rejects(rejects), at))
-        }
-        _ => {
-            let (arrows, at) = arrow_words(text, line, at)?;
-            Ok((Line::Arrows(arrows), at))
+    // A space, and a digit or `*` behind it.
+    fn pick(&mut self) -> Result<Choice, WordFault>
+        ensures { Reads model_choice picked self.old self.new result }
+    {
+        match self.choice()? {
+            Token::Digit(d) => Ok(Choice::One(d)),
+            _ => Ok(Choice::Each),
         }
     }
+
+    // Any number of digits up to the line end: the part of the text with their words.
+    fn digits(&mut self) -> Result<&'a [[u8; 2]], WordFault>
+        ensures { Reads model_digits states_in self.old self.new result }
+    {
+        let text = self.rest;
+        while self.sees(Class::Space) {
+            self.number()?;
+        }
+        let (words, _) = text[..text.len() - self.rest.len()].as_chunks::<2>();
+        self.byte(Class::End)?;
+        Ok(words)
+    }
+
+    // The name of an n line, and the line's end.
+    fn name_words(&mut self) -> Result<Name, WordFault>
+        ensures { Reads n_words name_line self.old self.new result }
+    {
+        let Token::Name(name) = self.name()? else {
+            unreachable()
+        };
+        Ok(Name::of(name))
+    }
+
+    // The words of an s line, and its end.
+    fn size_words(&mut self) -> Result<Size, WordFault>
+        ensures { Reads s_words size_line self.old self.new result }
+    {
+        let states = self.number()?;
+        let start = self.number()?;
+        self.byte(Class::End)?;
+        Ok(Size { states, start })
+    }
+
+    // The words of an r line, and its end.
+    fn reject_words(&mut self) -> Result<Rejects<'a>, WordFault>
+        ensures { Reads r_words rejects_line self.old self.new result }
+    {
+        let states = self.digits()?;
+        Ok(Rejects { states })
+    }
+
+    // The words of a t line, and its end.
+    fn arrow_words(&mut self) -> Result<Arrows<'a>, WordFault>
+        ensures { Reads t_words arrows_line self.old self.new result }
+    {
+        let from = self.number()?;
+        let command = self.pick()?;
+        let situation = self.pick()?;
+        let to = self.digits()?;
+        Ok(Arrows {
+            from,
+            command,
+            situation,
+            to,
+        })
+    }
+
+    // A line, from its letter to its end.
+    fn line_words(&mut self) -> Result<Line<'a>, WordFault>
+        ensures { Reads line_reader line_of self.old self.new result }
+    {
+        match self.letter()? {
+            Token::Letter('n') => Ok(Line::Name(self.name_words()?)),
+            Token::Letter('s') => Ok(Line::Size(self.size_words()?)),
+            Token::Letter('r') => Ok(Line::Rejects(self.reject_words()?)),
+            _ => Ok(Line::Arrows(self.arrow_words()?)),
+        }
+    }
+}
+
+/// The first line of the text, whose number is `line`, and the text behind it.
+pub fn first_line<'a>(text: &'a [u8], line: usize) -> Result<(Line<'a>, &'a [u8]), WordFault>
+    ensures { ReadsLine text.now line result }
+{
+    let mut cursor = Cursor::new(text, line);
+    let words = cursor.line_words()?;
+    Ok((words, cursor.rest))
 }

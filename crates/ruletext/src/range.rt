@@ -1,11 +1,13 @@
 //! The numbers of a line, held to their ranges from left to right.
 
-ghost use Rattle.std.specs.Prelude.{◌≡◌, ◌+◌, ◌-◌, ◌*◌, ◌^◌, ◌<◌, length};
-ghost use Rattle.model.specs.Text.{state_numbers, numbers};
-ghost use Rattle.ruletext.specs.Lines.{states_in, picked, size_line, arrows_line};
-ghost use Rattle.ruletext.specs.Ranges.{first_outside, below};
+ghost use Rattle.std.specs.Prelude.{◌≡◌, ◌+◌, ◌-◌, ◌*◌, ◌^◌, ◌<◌, ◌≤◌, length, nat_le, IfOk};
+ghost use Rattle.std.specs.List.{position};
+ghost use Rattle.model.specs.Text.{state_numbers, numbers as line_numbers};
+ghost use Rattle.ruletext.specs.Lines.{digit_of, states_in, size_line, arrows_line};
+ghost use Rattle.ruletext.specs.Ranges.{first_outside, fault_of};
 
-use crate::line::{Arrows, Choice, Size};
+use crate::line::{Arrows, Size};
+use rules::Numbers;
 
 /// What a digit's byte says.
 pub fn value(digit: u8) -> u8
@@ -14,58 +16,61 @@ pub fn value(digit: u8) -> u8
     digit.saturating_sub(b'0')
 }
 
+// The place of the first word whose state is not below `states`, if there is one.
+fn first_outside(words: &[[u8; 2]], states: u8) -> Option<usize>
+    ensures { result ≡ position (λ word. nat_le states (digit_of word)) words.now }
+{
+    words.iter().position(|word| value(word[1]) >= states)
+}
+
 /// The byte of the first state that is not below `states`, if there is one. The first word's digit stands at byte `at`.
-pub fn outside(words: &[u8], states: u8, at: usize) -> Option<usize>
-    requires { at + 2 * length (states_in words) < 2 ^ 64 }
+pub fn outside(words: &[[u8; 2]], states: u8, at: usize) -> Option<usize>
+    requires { at + 2 * length words.now < 2 ^ 64 }
     ensures { result ≡ first_outside (state_numbers states at (states_in words.entry)) }
 {
-    let mut left = words;
-    let mut byte = at;
-    while let [_, digit, rest @ ..] = left {
-        if value(*digit) >= states {
-            return Some(byte);
+    let word = first_outside(words, states)?;
+    Some(at + 2 * word)
+}
+
+/// A number of states, 1 to 8, and the start state, which is one of them.
+#[derive(Clone, Copy)]
+pub struct States {
+    pub count: u8,
+    pub start: u8,
+    ghost counted: { (1 ≤ count) × (count ≤ 8) },
+    ghost begins: { start < count },
+}
+
+impl States {
+    /// Those of an s line, or the byte of its first number that is out of range.
+    pub fn of(size: Size) -> Result<States, usize>
+        ensures outside { fault_of result ≡ first_outside (line_numbers 0 0 size.states (size_line size)) }
+        ensures same { IfOk result (λ s. (s.count ≡ size.states) × (s.start ≡ size.start)) }
+    {
+        if size.states < 1 || size.states > 8 {
+            return Err(2);
         }
-        byte += 2;
-        left = rest;
+        if size.start >= size.states {
+            return Err(4);
+        }
+        Ok(States {
+            count: size.states,
+            start: size.start,
+        })
     }
-    None
-}
-
-// Whether a digit is below `n`; `*` always is.
-fn within(choice: Choice, n: u8) -> bool
-    ensures { result ≡ below n (picked choice) }
-{
-    match choice {
-        Choice::One(d) => d < n,
-        Choice::Each => true,
-    }
-}
-
-/// The byte of the first number of an s line that is out of range, if there is one.
-pub fn outside_size(size: Size) -> Option<usize>
-    ensures { result ≡ first_outside (numbers 0 0 size.states (size_line size)) }
-{
-    if size.states < 1 || size.states > 8 {
-        return Some(2);
-    }
-    if size.start >= size.states {
-        return Some(4);
-    }
-    None
 }
 
 /// The byte of the first number of a t line that is out of range, if there is one.
-pub fn outside_arrows(arrows: Arrows, states: u8, situations: u8, commands: u8) -> Option<usize>
-    requires { 8 + 2 * length (states_in arrows.to) < 2 ^ 64 }
-    ensures { result ≡ first_outside (numbers situations commands states (arrows_line arrows.entry)) }
+pub fn outside_arrows(arrows: Arrows, states: u8, numbers: Numbers) -> Option<usize>
+    ensures { result ≡ first_outside (line_numbers numbers.situations numbers.commands states (arrows_line arrows.entry)) }
 {
     if arrows.from >= states {
         return Some(2);
     }
-    if !within(arrows.command, commands) {
+    if !arrows.command.is_below(numbers.commands) {
         return Some(4);
     }
-    if !within(arrows.situation, situations) {
+    if !arrows.situation.is_below(numbers.situations) {
         return Some(6);
     }
     outside(arrows.to, states, 8)

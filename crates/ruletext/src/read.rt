@@ -1,70 +1,25 @@
 //! A text read line by line.
 
-ghost use Rattle.std.specs.Prelude.{◌≡◌, ◌<◌, ◌≤◌, length, IfOk};
-ghost use Rattle.model.specs.Reading.{SoFar as Model, read as model_read, rule_left};
-ghost use Rattle.ruletext.specs.Standing.{Clear, Standing, Takes, TakesAll, stated};
+ghost use Rattle.std.specs.Prelude.{◌≡◌};
+ghost use Rattle.model.specs.Reading.{read as model_read, rule_left};
 ghost use Rattle.ruletext.specs.View.{Gives, told, view};
 
-use crate::line::first_line;
 use crate::rule::ReadRule;
-use crate::rule::fill::whole_rule;
-use crate::so_far::{SoFar, with_line};
-use crate::table::Table;
-use model::fault::{LineFault, ReadFault};
-
-// One more line: how far the lines come with it, and its length.
-fn take_line<'a>(
-    text: &'a [u8],
-    so_far: SoFar<'a>,
-    line: usize,
-    situations: u8,
-    commands: u8,
-    table: &mut Table,
-) -> Result<(SoFar<'a>, usize), LineFault>
-    requires { (stated so_far ≤ 8) × ((situations ≤ 8) × ((commands ≤ 8) × (length text.now ≤ 4096))) }
-    ensures takes { (m : Model) → Standing situations commands so_far.entry table.old.rejecting table.old.arrows m → Takes situations commands line m text.now table.new.rejecting table.new.arrows result }
-    ensures inside { IfOk result (λ v. (0 < v.1) × (v.1 ≤ length text.now)) }
-{
-    let (words, behind) = first_line(text, line)?;
-    let next = with_line(so_far, words, line, situations, commands, table)?;
-    Ok((next, behind))
-}
-
-// Line by line: how far the lines come, and the number of the line behind the last.
-fn take_lines<'a>(
-    text: &'a [u8],
-    situations: u8,
-    commands: u8,
-    table: &mut Table,
-) -> Result<(SoFar<'a>, usize), LineFault>
-    requires { (situations ≤ 8) × ((commands ≤ 8) × ((length text.now ≤ 4096) × (Clear table.old.rejecting table.old.arrows))) }
-    ensures { TakesAll situations commands text.now table.new.rejecting table.new.arrows result }
-{
-    let mut so_far = SoFar::Nothing;
-    let mut line = 1;
-    let mut rest = text;
-    while !rest.is_empty() {
-        let (next, length) = take_line(rest, so_far, line, situations, commands, table)?;
-        so_far = next;
-        rest = &rest[length..];
-        line += 1;
-    }
-    Ok((so_far, line))
-}
+use crate::so_far::Reading;
+use model::fault::ReadFault;
+use rules::Numbers;
 
 // The rule that the text states.
 fn rule_of(text: &[u8], situations: u8, commands: u8) -> Result<ReadRule, ReadFault>
     ensures { Gives situations commands (model_read situations commands text.now) result }
 {
-    if situations < 1 || situations > 8 || commands < 1 || commands > 8 {
+    let Some(numbers) = Numbers::within(situations, commands) else {
         return Err(ReadFault::Numbers);
-    }
+    };
     if text.is_empty() || text.len() > 4096 {
         return Err(ReadFault::Length);
     }
-    let mut table = Table::new();
-    let (so_far, line) = take_lines(text, situations, commands, &mut table)?;
-    whole_rule(so_far, line, situations, commands, table)
+    Reading::of(text, numbers)?.whole()
 }
 
 /// Fills the rule with the one that the text states for so many situations and commands; or says what is wrong with the text,

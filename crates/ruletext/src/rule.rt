@@ -1,32 +1,32 @@
 //! A rule read from a text.
 
-ghost use Rattle.std.specs.Prelude.{◌≡◌, ℕ, ◌<◌, ◌≤◌, true, false, length, take, slice_index_or};
-ghost use Rattle.model.specs.Text.{good_name};
+ghost use Rattle.std.specs.Prelude.{◌≡◌, ℕ, ◌<◌, true};
 ghost use Rattle.model.specs.ReadingLaws.{AllReached};
-ghost use Rattle.ruletext.specs.Tables.{automaton, Within};
+ghost use Rattle.ruletext.specs.Tables.{automaton, has_state, Within};
 
+use crate::name::Name;
+use crate::range::States;
 use crate::table::Table;
+use rules::Numbers;
 
 pub mod answers;
 pub mod fill;
 
-/// A rule, with the name that it goes by and the two numbers that it was read for; or blank, which has no state.
-/// A rule that is not blank is whole: every number is in range, and every state is reached from the start state.
+// A rule with its name and the two numbers that it was read for: every number is in range, and every state is reached from
+// the start state.
+#[derive(Drop)]
+struct Whole {
+    name: Name,
+    numbers: Numbers,
+    states: States,
+    table: Table,
+    ghost rejects: { (q : ℕ) → has_state table.rejecting q ≡ true → q < states.count },
+    ghost leads: { ∥ Within numbers.situations numbers.commands states.count table.arrows ∥₁ },
+    ghost reached: { ∥ AllReached (automaton numbers.situations numbers.commands states.count states.start table.rejecting table.arrows) ∥₁ },
+}
+
+/// A rule with the name that it goes by and the two numbers that it was read for, filled whole; or blank.
 #[derive(Drop)]
 pub struct ReadRule {
-    name: [u8; 8],
-    letters: u8,
-    situations: u8,
-    commands: u8,
-    states: u8,
-    start: u8,
-    table: Table,
-    ghost room: { length name ≡ 8 },
-    ghost situated: { (0 < states → (1 ≤ situations) × (situations ≤ 8)) },
-    ghost commanded: { (0 < states → (1 ≤ commands) × (commands ≤ 8)) },
-    ghost counted: { (0 < states → (states ≤ 8) × (start < states)) },
-    ghost named: { (0 < states → (letters ≤ 8) × (good_name (take letters name) ≡ true)) },
-    ghost rejects: { (0 < states → (q : ℕ) → slice_index_or table.rejecting q false ≡ true → q < states) },
-    ghost leads: { (0 < states → ∥ Within situations commands states table.arrows ∥₁) },
-    ghost reached: { (0 < states → ∥ AllReached (automaton situations commands states start table.rejecting table.arrows) ∥₁) },
+    whole: Option<Whole>,
 }

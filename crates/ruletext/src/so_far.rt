@@ -1,145 +1,151 @@
 //! How far the lines of a text have come: n, s and r once each, in this order, before all t lines.
 
-ghost use Rattle.std.specs.Prelude.{◌≡◌, ℕ, ◌+◌, ◌*◌, ◌^◌, ◌<◌, ◌≤◌, Bool, true, false, ◌||◌, List, length, slice_index_or};
-ghost use Rattle.model.specs.Text.{among, correct, has_arrow, line_bytes, numbers, state_numbers};
-ghost use Rattle.model.specs.Reading.{SoFar as Model};
-ghost use Rattle.ruletext.specs.Lines.{states_in, line_of, arrows_line, arrows_of};
-ghost use Rattle.ruletext.specs.Ranges.{first_outside};
-ghost use Rattle.ruletext.specs.Tables.{Adds};
-ghost use Rattle.ruletext.specs.Standing.{Standing, Steps, Held, stated};
+ghost use Rattle.std.specs.Prelude.{◌≡◌, ◌+◌, ◌<◌, ◌^◌, length, IfOk};
+ghost use Rattle.model.specs.Reading.{SoFar as Model, nothing};
 
-use crate::line::{Arrows, Line, Rejects, Size};
-use crate::range::{outside, outside_arrows, outside_size};
-use crate::table::{Table, connect, mark};
+use crate::line::{Line, first_line};
+use crate::name::Name;
+use crate::range::{States, outside, outside_arrows};
+use crate::table::Table;
 use model::fault::LineFault;
+use rules::Numbers;
 
 /// The parts of the rule so far, but for its tables.
 #[derive(Clone, Copy)]
-pub enum SoFar<'a> {
+pub enum SoFar {
     Nothing,
-    Named(&'a [u8]),
-    Sized(&'a [u8], Size),
-    Full(&'a [u8], Size),
+    Named(Name),
+    Sized(Name, States),
+    Full(Name, States),
 }
 
-// Marks the rejecting states of an r line, if they are in range.
-fn add_rejecting(
-    rejects: Rejects,
-    states: u8,
-    line: usize,
-    table: &mut Table,
-) -> Result<(), LineFault>
-    requires { (states ≤ 8) × (2 + 2 * length (states_in rejects.states) < 2 ^ 64) }
-    ensures held { Held line (state_numbers states 2 (states_in rejects.entry.states)) ((q : ℕ) → slice_index_or table.new.rejecting q false ≡ (slice_index_or table.old.rejecting q false || among (states_in rejects.entry.states) q)) result }
-    ensures same { table.new.arrows ≡ table.old.arrows }
-{
-    if let Some(byte) = outside(rejects.states, states, 2) {
-        return Err(LineFault::Range { line, byte });
-    }
-    mark(&mut table.rejecting, 0, rejects.states);
-    Ok(())
+/// A text that is being read: what its lines state so far, for so many situations and commands, and the number of the next line.
+#[derive(Drop)]
+pub struct Reading {
+    pub numbers: Numbers,
+    pub so_far: SoFar,
+    pub table: Table,
+    pub line: usize,
 }
 
-// Adds the arrows of a t line, if its numbers are in range.
-fn add_arrows(
-    arrows: Arrows,
-    states: u8,
-    line: usize,
-    situations: u8,
-    commands: u8,
-    table: &mut Table,
-) -> Result<(), LineFault>
-    requires { (states ≤ 8) × ((situations ≤ 8) × ((commands ≤ 8) × (8 + 2 * length (states_in arrows.to) < 2 ^ 64))) }
-    ensures held { Held line (numbers situations commands states (arrows_line arrows.entry)) (Adds table.old.arrows table.new.arrows (λ q u x p. has_arrow situations commands q u x p (arrows_of arrows.entry))) result }
-    ensures same { table.new.rejecting ≡ table.old.rejecting }
-{
-    if let Some(byte) = outside_arrows(arrows, states, situations, commands) {
-        return Err(LineFault::Range { line, byte });
-    }
-    connect(&mut table.arrows, arrows, situations, commands);
-    Ok(())
-}
+impl Reading {
+    ghost use Rattle.ruletext.specs.Lines.{line_of};
+    ghost use Rattle.ruletext.specs.declared.so_far.SoFar.TheVariants as far;
+    ghost use Rattle.ruletext.specs.Standing.{Stands, StandsAt, Steps, Takes, TakesAll};
 
-// The line that comes first: an n line.
-fn name_line<'a>(words: Line<'a>, line: usize) -> Result<SoFar<'a>, LineFault>
-    ensures { (S C : ℕ) (rejecting arrows : List Bool) (m : Model) → correct (line_of words.entry) ≡ true → Standing S C SoFar.Nothing rejecting arrows m → Steps S C line m (line_of words.entry) rejecting arrows result }
-{
-    match words {
-        Line::Name(name) => Ok(SoFar::Named(name)),
-        _ => Err(LineFault::Order { line }),
-    }
-}
-
-// The line behind the n line: an s line.
-fn size_line<'a>(name: &'a [u8], words: Line<'a>, line: usize) -> Result<SoFar<'a>, LineFault>
-    ensures { (S C : ℕ) (rejecting arrows : List Bool) (m : Model) → Standing S C (SoFar.Named name.entry) rejecting arrows m → Steps S C line m (line_of words.entry) rejecting arrows result }
-{
-    let Line::Size(size) = words else {
-        return Err(LineFault::Order { line });
-    };
-    if let Some(byte) = outside_size(size) {
-        return Err(LineFault::Range { line, byte });
-    }
-    Ok(SoFar::Sized(name, size))
-}
-
-// The line behind the s line: an r line.
-fn rejecting_line<'a>(
-    name: &'a [u8],
-    size: Size,
-    words: Line<'a>,
-    line: usize,
-    table: &mut Table,
-) -> Result<SoFar<'a>, LineFault>
-    requires { (size.states ≤ 8) × (length (line_bytes (line_of words)) ≤ 4096) }
-    ensures { (S C : ℕ) (m : Model) → Standing S C (SoFar.Sized name.entry size) table.old.rejecting table.old.arrows m → Steps S C line m (line_of words.entry) table.new.rejecting table.new.arrows result }
-{
-    let Line::Rejects(rejects) = words else {
-        return Err(LineFault::Order { line });
-    };
-    let full = SoFar::Full(name, size);
-    add_rejecting(rejects, size.states, line, table)?;
-    Ok(full)
-}
-
-// Every further line: a t line.
-fn arrow_line<'a>(
-    name: &'a [u8],
-    size: Size,
-    words: Line<'a>,
-    line: usize,
-    situations: u8,
-    commands: u8,
-    table: &mut Table,
-) -> Result<SoFar<'a>, LineFault>
-    requires { (size.states ≤ 8) × ((situations ≤ 8) × ((commands ≤ 8) × (length (line_bytes (line_of words)) ≤ 4096))) }
-    ensures { (m : Model) → Standing situations commands (SoFar.Full name.entry size) table.old.rejecting table.old.arrows m → Steps situations commands line m (line_of words.entry) table.new.rejecting table.new.arrows result }
-{
-    let Line::Arrows(arrows) = words else {
-        return Err(LineFault::Order { line });
-    };
-    add_arrows(arrows, size.states, line, situations, commands, table)?;
-    Ok(SoFar::Full(name, size))
-}
-
-/// One more line, if it comes next and its numbers are in range: how far the lines come with it.
-pub fn with_line<'a>(
-    so_far: SoFar<'a>,
-    words: Line<'a>,
-    line: usize,
-    situations: u8,
-    commands: u8,
-    table: &mut Table,
-) -> Result<SoFar<'a>, LineFault>
-    requires { (stated so_far ≤ 8) × ((situations ≤ 8) × ((commands ≤ 8) × (length (line_bytes (line_of words)) ≤ 4096))) }
-    ensures { (m : Model) → correct (line_of words.entry) ≡ true → Standing situations commands so_far.entry table.old.rejecting table.old.arrows m → Steps situations commands line m (line_of words.entry) table.new.rejecting table.new.arrows result }
-{
-    match so_far {
-        SoFar::Nothing => name_line(words, line),
-        SoFar::Named(name) => size_line(name, words, line),
-        SoFar::Sized(name, size) => rejecting_line(name, size, words, line, table),
-        SoFar::Full(name, size) => {
-            arrow_line(name, size, words, line, situations, commands, table)
+    // Before the first line.
+    fn new(numbers: Numbers) -> Reading
+        ensures stands { Stands result nothing }
+        ensures first { result.line ≡ 1 }
+        ensures numbers { result.numbers ≡ numbers }
+    {
+        Reading {
+            numbers,
+            so_far: SoFar::Nothing,
+            table: Table::new(),
+            line: 1,
         }
+    }
+
+    // The line that comes first: an n line.
+    fn add_name(&mut self, words: Line) -> Result<(), LineFault>
+        ensures kept { (self.new.numbers ≡ self.old.numbers) × (self.new.line ≡ self.old.line) }
+        ensures steps { (m : Model) → StandsAt far.Nothing self.old m → Steps self.old m (line_of words.entry) self.new result }
+    {
+        let Line::Name(name) = words else {
+            return Err(LineFault::Order { line: self.line });
+        };
+        self.so_far = SoFar::Named(name);
+        Ok(())
+    }
+
+    // The line behind the n line: an s line.
+    fn add_size(&mut self, name: Name, words: Line) -> Result<(), LineFault>
+        ensures kept { (self.new.numbers ≡ self.old.numbers) × (self.new.line ≡ self.old.line) }
+        ensures steps { (m : Model) → StandsAt (far.Named name) self.old m → Steps self.old m (line_of words.entry) self.new result }
+    {
+        let Line::Size(size) = words else {
+            return Err(LineFault::Order { line: self.line });
+        };
+        let line = self.line;
+        let states = States::of(size).map_err(|byte| LineFault::Range { line, byte })?;
+        self.so_far = SoFar::Sized(name, states);
+        Ok(())
+    }
+
+    // The line behind the s line: an r line.
+    fn add_rejecting(&mut self, name: Name, states: States, words: Line) -> Result<(), LineFault>
+        ensures kept { (self.new.numbers ≡ self.old.numbers) × (self.new.line ≡ self.old.line) }
+        ensures steps { (m : Model) → StandsAt (far.Sized name states) self.old m → Steps self.old m (line_of words.entry) self.new result }
+    {
+        let Line::Rejects(rejects) = words else {
+            return Err(LineFault::Order { line: self.line });
+        };
+        if let Some(byte) = outside(rejects.states, states.count, 2) {
+            return Err(LineFault::Range {
+                line: self.line,
+                byte,
+            });
+        }
+        self.table.rejecting.add(rejects.states);
+        self.so_far = SoFar::Full(name, states);
+        Ok(())
+    }
+
+    // Every further line: a t line.
+    fn add_arrows(&mut self, name: Name, states: States, words: Line) -> Result<(), LineFault>
+        ensures kept { (self.new.numbers ≡ self.old.numbers) × (self.new.line ≡ self.old.line) }
+        ensures steps { (m : Model) → StandsAt (far.Full name states) self.old m → self.old.so_far ≡ far.Full name states → Steps self.old m (line_of words.entry) self.new result }
+    {
+        let Line::Arrows(arrows) = words else {
+            return Err(LineFault::Order { line: self.line });
+        };
+        if let Some(byte) = outside_arrows(arrows, states.count, self.numbers) {
+            return Err(LineFault::Range {
+                line: self.line,
+                byte,
+            });
+        }
+        self.table.connect(arrows, self.numbers);
+        Ok(())
+    }
+
+    // One more line, if it comes next and its numbers are in range.
+    fn add(&mut self, words: Line) -> Result<(), LineFault>
+        ensures kept { (self.new.numbers ≡ self.old.numbers) × (self.new.line ≡ self.old.line) }
+        ensures steps { (m : Model) → Stands self.old m → Steps self.old m (line_of words.entry) self.new result }
+    {
+        match self.so_far {
+            SoFar::Nothing => self.add_name(words),
+            SoFar::Named(name) => self.add_size(name, words),
+            SoFar::Sized(name, states) => self.add_rejecting(name, states, words),
+            SoFar::Full(name, states) => self.add_arrows(name, states, words),
+        }
+    }
+
+    // The first line of the text, which is one more: the text behind it.
+    fn take<'a>(&mut self, text: &'a [u8]) -> Result<&'a [u8], LineFault>
+        requires { self.old.line + length text.now < 2 ^ 64 }
+        ensures kept { self.new.numbers ≡ self.old.numbers }
+        ensures line { IfOk result (λ _. self.new.line ≡ self.old.line + 1) }
+        ensures shorter { IfOk result (λ rest. length rest.now < length text.now) }
+        ensures takes { (m : Model) → Stands self.old m → Takes self.old m text.now self.new result }
+    {
+        let (words, rest) = first_line(text, self.line)?;
+        self.add(words)?;
+        self.line += 1;
+        Ok(rest)
+    }
+
+    /// What all lines of the text state.
+    pub fn of(text: &[u8], numbers: Numbers) -> Result<Reading, LineFault>
+        ensures { TakesAll numbers text.now result }
+    {
+        let mut reading = Reading::new(numbers);
+        let mut rest = text;
+        while !rest.is_empty() {
+            rest = reading.take(rest)?;
+        }
+        Ok(reading)
     }
 }

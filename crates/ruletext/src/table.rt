@@ -1,86 +1,123 @@
 //! The rejecting states and the arrows of a rule, as tables.
 
-ghost use Rattle.std.specs.Prelude.{◌≡◌, ℕ, ◌+◌, ◌<◌, ◌≤◌, true, false, ◌||◌, length, slice_index_or};
+ghost use Rattle.std.specs.Prelude.{◌≡◌, ℕ, ◌<◌, ◌≤◌, true, false, ◌&&◌, ◌||◌, nat_lt};
 ghost use Rattle.model.specs.Lists.{In};
-ghost use Rattle.model.specs.Text.{has_arrow};
+ghost use Rattle.model.specs.Text.{among, has_arrow};
 ghost use Rattle.ruletext.specs.Lines.{states_in, picked, arrows_of};
 ghost use Rattle.ruletext.specs.Ranges.{below};
-ghost use Rattle.ruletext.specs.Tables.{place, shifted, taken, Adds, under_command};
+ghost use Rattle.ruletext.specs.Tables.{has_state, in_situation, by_command, arrow, taken, Adds};
 
 use crate::line::{Arrows, Choice};
 use crate::range::value;
+use rules::Numbers;
 
-/// Which states reject, and which arrows there are.
+/// Some of the states.
+#[derive(Clone, Copy)]
+pub struct StateSet {
+    pub has: [bool; 8],
+}
+
+impl StateSet {
+    /// Whether a state is one of them.
+    pub(crate) fn contains(&self, state: u8) -> bool
+        requires { state < 8 }
+        ensures { result ≡ has_state self.now state }
+    {
+        self.has[state as usize]
+    }
+
+    /// Adds the states that the words name.
+    pub(crate) fn add(&mut self, words: &[[u8; 2]])
+        requires { (q : ℕ) → In (states_in words) q → q < 8 }
+        ensures { (p : ℕ) → has_state self.new p ≡ (has_state self.old p || among (states_in words.entry) p) }
+    {
+        for word in words {
+            self.has[value(word[1]) as usize] = true;
+        }
+    }
+}
+
+/// The states that follow in each situation.
+#[derive(Clone, Copy)]
+pub struct BySituation {
+    pub situations: [StateSet; 8],
+}
+
+impl BySituation {
+    // Adds the states that the words name, in each situation that is chosen.
+    fn add(&mut self, chosen: Choice, situations: u8, words: &[[u8; 2]])
+        requires { (situations ≤ 8) × ((q : ℕ) → In (states_in words) q → q < 8) }
+        ensures { (x p : ℕ) → x < 8 → in_situation self.new x p ≡ (in_situation self.old x p || ((nat_lt x situations && taken (picked chosen) x) && among (states_in words.entry) p)) }
+    {
+        for x in 0..situations {
+            if chosen.takes(x) {
+                self.situations[x as usize].add(words);
+            }
+        }
+    }
+}
+
+/// The states that follow under each command, in each situation.
+#[derive(Clone, Copy)]
+pub struct ByCommand {
+    pub commands: [BySituation; 8],
+}
+
+impl ByCommand {
+    // Adds the states that follow by a line, under each command and in each situation that it names.
+    fn add(&mut self, line: Arrows, numbers: Numbers)
+        requires { (q : ℕ) → In (states_in line.to) q → q < 8 }
+        ensures { (u x p : ℕ) → u < 8 → x < 8 → by_command self.new u x p ≡ (by_command self.old u x p || ((nat_lt u numbers.commands && taken (picked line.entry.command) u) && ((nat_lt x numbers.situations && taken (picked line.entry.situation) x) && among (states_in line.entry.to) p))) }
+    {
+        for u in 0..numbers.commands {
+            if line.command.takes(u) {
+                self.commands[u as usize].add(line.situation, numbers.situations, line.to);
+            }
+        }
+    }
+}
+
+/// Which states reject, and which arrows lead from each state.
 #[derive(Drop)]
 pub struct Table {
-    pub rejecting: [bool; 8],
-    pub arrows: [bool; 4096],
-    ghost sized: { (length rejecting ≡ 8) × (length arrows ≡ 4096) },
+    pub rejecting: StateSet,
+    pub arrows: [ByCommand; 8],
 }
 
 impl Table {
     /// No rejecting state, and no arrow.
     pub fn new() -> Table
-        ensures { (((k : ℕ) → slice_index_or result.rejecting k false ≡ false)) × (((k : ℕ) → slice_index_or result.arrows k false ≡ false)) }
+        ensures { ((p : ℕ) → has_state result.rejecting p ≡ false) × ((q u x p : ℕ) → arrow result.arrows q u x p ≡ false) }
     {
+        let none = StateSet { has: [false; 8] };
+        let in_situations = BySituation {
+            situations: [none; 8],
+        };
+        let under_commands = ByCommand {
+            commands: [in_situations; 8],
+        };
         Table {
-            rejecting: [false; 8],
-            arrows: [false; 4096],
+            rejecting: none,
+            arrows: [under_commands; 8],
         }
     }
-}
 
-/// The place of an arrow among the arrows: that the follower follows the state under the command in the situation.
-pub fn place_of(state: u8, command: u8, situation: u8, follower: u8) -> usize
-    requires { (state < 8) × ((command < 8) × ((situation < 8) × (follower < 8))) }
-    ensures { result ≡ place state command situation follower }
-{
-    state as usize * 512 + command as usize * 64 + situation as usize * 8 + follower as usize
-}
-
-/// Marks the states that the words name, counted on from `first`.
-pub fn mark(marks: &mut [bool], first: usize, words: &[u8])
-    requires { (q : ℕ) → In (states_in words) q → first + q < length marks.old }
-    ensures { (k : ℕ) → slice_index_or marks.new k false ≡ (slice_index_or marks.old k false || shifted first (states_in words.entry) k) }
-{
-    let mut left = words;
-    while let [_, digit, rest @ ..] = left {
-        marks[first + value(*digit) as usize] = true;
-        left = rest;
+    /// Whether an arrow leads from a state to its follower, under a command in a situation.
+    pub(crate) fn follows(&self, state: u8, command: u8, situation: u8, follower: u8) -> bool
+        requires { (state < 8) × ((command < 8) × ((situation < 8) × (follower < 8))) }
+        ensures { result ≡ arrow self.now.arrows state command situation follower }
+    {
+        let under = &self.arrows[state as usize].commands[command as usize];
+        under.situations[situation as usize].has[follower as usize]
     }
-}
 
-// Whether a number is the digit; each is one that `*` takes.
-fn takes(choice: Choice, n: u8) -> bool
-    ensures { result ≡ taken (picked choice) n }
-{
-    match choice {
-        Choice::One(d) => d == n,
-        Choice::Each => true,
-    }
-}
-
-// Adds the line's arrows under one command: in each situation that it names, to all its followers.
-fn connect_under(arrows: &mut [bool], line: Arrows, command: u8, situations: u8)
-    requires { (length arrows.old ≡ 4096) × ((line.from < 8) × ((command < 8) × ((situations ≤ 8) × (((p : ℕ) → In (states_in line.to) p → p < 8))))) }
-    ensures { Adds arrows.old arrows.new (under_command (arrows_of line.entry) command situations) }
-{
-    for x in 0..situations {
-        if takes(line.situation, x) {
-            mark(arrows, place_of(line.from, command, x, 0), line.to);
-        }
-    }
-}
-
-/// Adds the line's arrows: under each command and in each situation that it names, to all its followers.
-pub fn connect(arrows: &mut [bool], line: Arrows, situations: u8, commands: u8)
-    requires fits { (length arrows.old ≡ 4096) × ((line.from < 8) × ((commands ≤ 8) × ((situations ≤ 8) × (((p : ℕ) → In (states_in line.to) p → p < 8))))) }
-    requires named { (below commands (picked line.command) ≡ true) × (below situations (picked line.situation) ≡ true) }
-    ensures { Adds arrows.old arrows.new (λ q u x p. has_arrow situations commands q u x p (arrows_of line.entry)) }
-{
-    for u in 0..commands {
-        if takes(line.command, u) {
-            connect_under(arrows, line, u, situations);
-        }
+    /// Adds the line's arrows: under each command and in each situation that it names, to all its followers.
+    pub fn connect(&mut self, line: Arrows, numbers: Numbers)
+        requires fits { (line.from < 8) × ((q : ℕ) → In (states_in line.to) q → q < 8) }
+        requires named { (below numbers.commands (picked line.command) ≡ true) × (below numbers.situations (picked line.situation) ≡ true) }
+        ensures added { Adds self.old.arrows self.new.arrows (λ q u x p. has_arrow numbers.situations numbers.commands q u x p (arrows_of line.entry)) }
+        ensures same { self.new.rejecting ≡ self.old.rejecting }
+    {
+        self.arrows[line.from as usize].add(line, numbers);
     }
 }

@@ -1,8 +1,10 @@
 //! The words of a line as tokens, which are parts of the text.
 
-ghost use Rattle.std.specs.Prelude.{◌≡◌};
-ghost use Rattle.model.specs.Reading.{byte as model_byte, n_words};
-ghost use Rattle.ruletext.specs.Tokens.{Reads, Tokens, same, name_line, passing};
+ghost use Rattle.std.specs.Prelude.{◌≡◌, ◌+◌, ◌^◌, ◌<◌, ◌≤◌, length, take, drop};
+ghost use Rattle.std.specs.List.{take_while};
+ghost use Rattle.model.specs.Text.{name_byte};
+ghost use Rattle.model.specs.Reading.{byte as model_byte, letter as model_letter, n_words, digit as model_digit, choice as model_choice};
+ghost use Rattle.ruletext.specs.Classes.{passing, seen, same};
 
 use model::fault::WordFault;
 
@@ -15,20 +17,8 @@ pub enum Token<'a> {
     Star,
 }
 
-/// The word that is due.
-#[derive(Clone, Copy)]
-pub enum Due {
-    /// The letter of a line.
-    Letter,
-    /// A space, a name, and the line end behind it.
-    Name,
-    /// A space and a digit.
-    Digit,
-    /// A space, and a digit or a star.
-    Choice,
-}
-
 /// What may stand at a byte of a line.
+// No closure in its place: a contract can name a class, where a closure's test would be a ghost value that each call picks.
 #[derive(Clone, Copy)]
 pub enum Class {
     Space,
@@ -39,80 +29,142 @@ pub enum Class {
     Letter,
 }
 
-// Whether the byte is of the class.
-fn passes(class: Class, b: u8) -> bool
-    ensures { result ≡ passing class b }
-{
-    match class {
-        Class::Space => b == b' ',
-        Class::End => b == b'\n',
-        Class::Digit => b'0' <= b && b <= b'9',
-        Class::Choice => (b'0' <= b && b <= b'9') || b == b'*',
-        Class::Name => (b'0' <= b && b <= b'9')
-            || (b'A' <= b && b <= b'Z')
-            || (b'a' <= b && b <= b'z'),
-        Class::Letter => match b as char {
-            'n' | 's' | 'r' | 't' => true,
-            _ => false,
-        },
+impl Class {
+    /// Whether the byte is of the class.
+    pub(crate) fn contains(self, b: u8) -> bool
+        ensures { result ≡ passing self b }
+    {
+        match self {
+            Class::Space => b == b' ',
+            Class::End => b == b'\n',
+            Class::Digit => b.is_ascii_digit(),
+            Class::Choice => b.is_ascii_digit() || b == b'*',
+            Class::Name => b.is_ascii_alphanumeric(),
+            Class::Letter => match b as char {
+                'n' | 's' | 'r' | 't' => true,
+                _ => false,
+            },
+        }
     }
 }
 
-/// One byte of the class, at byte `at` of the line, and the byte behind it.
-pub fn byte(text: &[u8], line: usize, at: usize, class: Class) -> Result<(u8, usize), WordFault>
-    ensures { Reads (model_byte (passing class)) same text.now line at result }
+// How many bytes of a name the text begins with: eight at most.
+fn name_length(text: &[u8]) -> usize
+    ensures { result ≡ length (take_while name_byte (take 8 text.now)) }
 {
-    if at >= text.len() || !passes(class, text[at]) {
-        return Err(WordFault { line, byte: at });
-    }
-    Ok((text[at], at + 1))
+    text.iter()
+        .take(8)
+        .take_while(|b| b.is_ascii_alphanumeric())
+        .count()
 }
 
-// A name and the line end behind it.
-fn name<'a>(text: &'a [u8], line: usize, at: usize) -> Result<(&'a [u8], usize), WordFault>
-    ensures { Reads n_words name_line text.now line at result }
-{
-    let (_, start) = byte(text, line, at, Class::Space)?;
-    let (_, second) = byte(text, line, start, Class::Name)?;
-    let mut end = second;
-    while end < text.len() && text[end] != b'\n' && end - start < 8 {
-        let (_, next) = byte(text, line, end, Class::Name)?;
-        end = next;
-    }
-    let (_, behind) = byte(text, line, end, Class::End)?;
-    Ok((&text[start..end], behind))
+/// A place in a line of the text: the line's number, the byte in it, and the text from there on.
+#[derive(Drop)]
+pub struct Cursor<'a> {
+    pub rest: &'a [u8],
+    pub line: usize,
+    pub at: usize,
+    ghost fits: { at + length rest.now < 2 ^ 64 },
 }
 
-/// The word that is due at byte `at` of the line, and the byte behind it.
-pub fn word<'a>(
-    text: &'a [u8],
-    line: usize,
-    at: usize,
-    due: Due,
-) -> Result<(Token<'a>, usize), WordFault>
-    ensures { Tokens due text.now line at result }
-{
-    match due {
-        Due::Letter => {
-            let (b, next) = byte(text, line, at, Class::Letter)?;
-            Ok((Token::Letter(b as char), next))
+impl<'a> Cursor<'a> {
+    ghost use Rattle.ruletext.specs.Tokens.{Reads, Tokens, IsLetter, IsName, IsDigit, IsChoice};
+
+    /// The front of the line that the text begins with.
+    pub(crate) fn new(text: &'a [u8], line: usize) -> Cursor<'a>
+        ensures { (result.rest.now ≡ text.now) × ((result.line ≡ line) × (result.at ≡ 0)) }
+    {
+        Cursor {
+            rest: text,
+            line,
+            at: 0,
         }
-        Due::Name => {
-            let (part, next) = name(text, line, at)?;
-            Ok((Token::Name(part), next))
+    }
+
+    // A fault at this byte.
+    fn fault(&self) -> WordFault
+        ensures { (result.line ≡ self.now.line) × (result.byte ≡ self.now.at) }
+    {
+        WordFault {
+            line: self.line,
+            byte: self.at,
         }
-        Due::Digit => {
-            let (_, first) = byte(text, line, at, Class::Space)?;
-            let (b, next) = byte(text, line, first, Class::Digit)?;
-            Ok((Token::Digit(b - b'0'), next))
+    }
+
+    // Goes on behind so many bytes.
+    fn skip(&mut self, count: usize)
+        requires { count ≤ length self.old.rest.now }
+        ensures line { self.new.line ≡ self.old.line }
+        ensures at { self.new.at ≡ self.old.at + count }
+        ensures rest { self.new.rest.now ≡ drop count self.old.rest.now }
+    {
+        self.rest = &self.rest[count..];
+        self.at += count;
+    }
+
+    /// Whether a byte of the class stands here.
+    pub(crate) fn sees(&self, class: Class) -> bool
+        ensures { result ≡ seen (passing class) self.now.rest.now }
+    {
+        match self.rest.first() {
+            Some(b) => class.contains(*b),
+            None => false,
         }
-        Due::Choice => {
-            let (_, first) = byte(text, line, at, Class::Space)?;
-            let (b, next) = byte(text, line, first, Class::Choice)?;
-            match b as char {
-                '*' => Ok((Token::Star, next)),
-                _ => Ok((Token::Digit(b - b'0'), next)),
-            }
+    }
+
+    /// One byte of the class.
+    pub(crate) fn byte(&mut self, class: Class) -> Result<u8, WordFault>
+        ensures { Reads (model_byte (passing class)) same self.old self.new result }
+    {
+        if !self.sees(class) {
+            return Err(self.fault());
+        }
+        let b = self.rest[0];
+        self.skip(1);
+        Ok(b)
+    }
+
+    /// The letter of a line.
+    pub(crate) fn letter(&mut self) -> Result<Token<'a>, WordFault>
+        ensures { Tokens (model_byte model_letter) IsLetter self.old self.new result }
+    {
+        let b = self.byte(Class::Letter)?;
+        Ok(Token::Letter(b as char))
+    }
+
+    /// A space, a name, and the line end behind it.
+    pub(crate) fn name(&mut self) -> Result<Token<'a>, WordFault>
+        ensures { Tokens n_words IsName self.old self.new result }
+    {
+        self.byte(Class::Space)?;
+        let text = self.rest;
+        let length = name_length(text);
+        if length == 0 {
+            return Err(self.fault());
+        }
+        self.skip(length);
+        self.byte(Class::End)?;
+        Ok(Token::Name(&text[..length]))
+    }
+
+    /// A space and a digit.
+    pub(crate) fn digit(&mut self) -> Result<Token<'a>, WordFault>
+        ensures { Tokens model_digit IsDigit self.old self.new result }
+    {
+        self.byte(Class::Space)?;
+        let b = self.byte(Class::Digit)?;
+        Ok(Token::Digit(b - b'0'))
+    }
+
+    /// A space, and a digit or a star.
+    pub(crate) fn choice(&mut self) -> Result<Token<'a>, WordFault>
+        ensures { Tokens model_choice IsChoice self.old self.new result }
+    {
+        self.byte(Class::Space)?;
+        let b = self.byte(Class::Choice)?;
+        match b as char {
+            '*' => Ok(Token::Star),
+            _ => Ok(Token::Digit(b - b'0')),
         }
     }
 }

@@ -5,7 +5,6 @@ ghost use Rattle.model.specs.Text.{rule_meaning, blank};
 ghost use Rattle.ruletext.specs.View.{view, name_of, is_blank};
 
 use crate::rule::ReadRule;
-use crate::table::{Table, place_of};
 use rules::Rule;
 
 impl ReadRule {
@@ -13,32 +12,24 @@ impl ReadRule {
     pub fn blank() -> ReadRule
         ensures { view result ≡ blank }
     {
-        ReadRule {
-            name: [0; 8],
-            letters: 0,
-            situations: 0,
-            commands: 0,
-            states: 0,
-            start: 0,
-            table: Table::new(),
-        }
+        ReadRule { whole: None }
     }
 
     /// Whether it is blank.
     pub fn is_blank(&self) -> bool
         ensures { result ≡ is_blank (view self.now) }
     {
-        self.states == 0
+        self.whole.is_none()
     }
 
     /// The name, as written; a blank one has none.
     pub fn name(&self) -> &[u8]
         ensures { result.now ≡ name_of (view self.now) }
     {
-        if self.states == 0 {
-            return &self.name[0..0];
+        match &self.whole {
+            Some(rule) => rule.name.as_slice(),
+            None => &[],
         }
-        &self.name[0..self.letters as usize]
     }
 }
 
@@ -46,32 +37,44 @@ impl Rule for ReadRule {
     ghost meaning = { λ r. rule_meaning (view r) };
 
     fn situations(&self) -> u8 {
-        if self.states == 0 { 1 } else { self.situations }
+        match &self.whole {
+            Some(rule) => rule.numbers.situations,
+            None => 1,
+        }
     }
 
     fn commands(&self) -> u8 {
-        if self.states == 0 { 1 } else { self.commands }
+        match &self.whole {
+            Some(rule) => rule.numbers.commands,
+            None => 1,
+        }
     }
 
     fn states(&self) -> u8 {
-        if self.states == 0 { 1 } else { self.states }
+        match &self.whole {
+            Some(rule) => rule.states.count,
+            None => 1,
+        }
     }
 
     fn starts(&self, state: u8) -> bool {
-        self.states == 0 || state == self.start
+        match &self.whole {
+            Some(rule) => state == rule.states.start,
+            None => true,
+        }
     }
 
     fn rejects(&self, state: u8) -> bool {
-        if self.states == 0 {
-            return false;
+        match &self.whole {
+            Some(rule) => rule.table.rejecting.contains(state),
+            None => false,
         }
-        self.table.rejecting[state as usize]
     }
 
     fn follows(&self, state: u8, command: u8, situation: u8, follower: u8) -> bool {
-        if self.states == 0 {
-            return true;
+        match &self.whole {
+            Some(rule) => rule.table.follows(state, command, situation, follower),
+            None => true,
         }
-        self.table.arrows[place_of(state, command, situation, follower)]
     }
 }

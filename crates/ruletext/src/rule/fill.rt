@@ -1,52 +1,34 @@
 //! A rule filled whole from the lines of a text.
 
-ghost use Rattle.std.specs.Prelude.{◌≡◌, ◌≤◌, length, take};
+ghost use Rattle.std.specs.Prelude.{◌≡◌};
 ghost use Rattle.model.specs.Reading.{SoFar as Model, at_end};
-ghost use Rattle.model.specs.ReadingLaws.{NumbersGood};
-ghost use Rattle.ruletext.specs.Standing.{Standing};
+ghost use Rattle.ruletext.specs.Standing.{Stands};
 ghost use Rattle.ruletext.specs.View.{Gives};
 
 use crate::reach::all_reached;
-use crate::rule::ReadRule;
-use crate::so_far::SoFar;
-use crate::table::Table;
+use crate::rule::{ReadRule, Whole};
+use crate::so_far::{Reading, SoFar};
 use model::fault::{LineFault, ReadFault};
 
-// An own copy of the name.
-fn copied(name: &[u8]) -> [u8; 8]
-    requires { length name.now ≤ 8 }
-    ensures { (take (length name.now) result ≡ name.now) × (length result ≡ 8) }
-{
-    let mut copy = [0; 8];
-    copy[0..name.len()].copy_from_slice(name);
-    copy
-}
-
-/// The rule that the lines state, if none is missing and every state is reached; `line` is the line behind the last.
-pub fn whole_rule(
-    so_far: SoFar,
-    line: usize,
-    situations: u8,
-    commands: u8,
-    table: Table,
-) -> Result<ReadRule, ReadFault>
-    requires { (NumbersGood situations commands) × (((m : Model) × Standing situations commands so_far table.rejecting table.arrows m)) }
-    ensures { (m : Model) → Standing situations commands so_far.entry table.rejecting table.arrows m → Gives situations commands (at_end situations commands line m) result }
-{
-    let SoFar::Full(name, size) = so_far else {
-        return Err(ReadFault::Line(LineFault::Order { line }));
-    };
-    if !all_reached(&table, size.states, size.start) {
-        return Err(ReadFault::Unreached { line });
+impl Reading {
+    /// The rule that the lines state, if none is missing and every state is reached; the next line is the one behind the last.
+    pub fn whole(self) -> Result<ReadRule, ReadFault>
+        requires { (m : Model) × Stands self m }
+        ensures { (m : Model) → Stands self m → Gives self.numbers.situations self.numbers.commands (at_end self.numbers.situations self.numbers.commands self.line m) result }
+    {
+        let line = self.line;
+        let SoFar::Full(name, states) = self.so_far else {
+            return Err(ReadFault::Line(LineFault::Order { line }));
+        };
+        if !all_reached(&self.table, states) {
+            return Err(ReadFault::Unreached { line });
+        }
+        let whole = Whole {
+            name,
+            numbers: self.numbers,
+            states,
+            table: self.table,
+        };
+        Ok(ReadRule { whole: Some(whole) })
     }
-    let filled = ReadRule {
-        name: copied(name),
-        letters: name.len() as u8,
-        situations,
-        commands,
-        states: size.states,
-        start: size.start,
-        table,
-    };
-    Ok(filled)
 }
