@@ -33,8 +33,8 @@ fn load(rt: &HostRuntime, source: Source) -> io::Result<Vec<u8>> {
     }
 }
 
-#[tactic(auto, unfolding(model::specs::Sheet::look))]
 // Whether a controller can be generated: the numbers and the capacity, the house rule, and the limit are looked at in this order.
+#[tactic(auto, unfolding(model::specs::Sheet::look))]
 fn look(setup: &Setup) -> Result<Numbers, Refusal>
     ensures solvable { IfOk result (λ _. Solvable (meaning_of setup.now.house) setup.now.capacity setup.now.limit) }
     ensures numbers { IfOk result (λ n. (n.situations ≡ setup.now.situations) × (n.commands ≡ setup.now.commands)) }
