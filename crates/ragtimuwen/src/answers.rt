@@ -1,6 +1,8 @@
 //! Answers the lines of a script.
 
-ghost use Rattle.std.specs.Prelude.{◌≡◌, ◌<◌, IfOk, IfErr};
+ghost use Rattle.std.specs.Prelude.{◌≡◌, ◌<◌, ◌++◌, IfOk, IfErr, OnOk, codes};
+ghost use Rattle.std.specs.Io.KnownBytes.{Appends};
+ghost use Rattle.ragtimuwen.specs.Printed.{not_generated};
 ghost use Rattle.script.specs.Meaning.{meaning_of};
 ghost use Rattle.ragtimuwen.specs.Solvable.{Solvable, Unsolvable};
 
@@ -179,7 +181,9 @@ impl<'a, W: Write> Answers<'a, W> {
         }
     }
 
-    fn refuse(&mut self, refusal: Refusal) -> io::Result<()> {
+    fn refuse(&mut self, refusal: Refusal) -> io::Result<()>
+        ensures { OnOk result (Appends (W.contents self.old.out.now) (W.contents self.new.out.now) (not_generated refusal ++ codes "\n")) }
+    {
         let refusal = Ungenerated(refusal);
         writeln!(self.out, "{refusal}")
     }
