@@ -11,21 +11,20 @@ use crate::page::Page;
 use crate::sheet::Sheet;
 use crate::stored::Solution;
 use model::refusal::Refusal;
-use rules::{Free, Rule};
+use rules::{Free, Numbers, Rule};
 use ruletext::ReadRule;
 
 /// What open would be refused: numbers of situations or commands outside 1 to 8, or a capacity outside 1 to 1,024; or a house rule with
 /// over 12 states, or for other numbers.
+#[tactic(auto, unfolding(model::specs::Sheet::look))]
 pub fn look<R: Rule>(house: &R, situations: u8, commands: u8, capacity: u16) -> Result<(), Refusal>
     ensures { result ≡ passing (look_at (R.Rule.meaning house.now) situations commands capacity) }
 {
-    if situations < 1 || situations > 8 || commands < 1 || commands > 8 {
+    let numbers = Numbers::within(situations, commands).ok_or(Refusal::OutOfRange)?;
+    if !(1..=1024).contains(&capacity) {
         return Err(Refusal::OutOfRange);
     }
-    if capacity < 1 || capacity > 1024 {
-        return Err(Refusal::OutOfRange);
-    }
-    if house.states() > 12 || house.situations() != situations || house.commands() != commands {
+    if house.states() > 12 || Numbers::of(house) != numbers {
         return Err(Refusal::HouseRule);
     }
     Ok(())
