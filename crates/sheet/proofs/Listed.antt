@@ -1,15 +1,13 @@
 -- Tests on lists, and sums over the states of rules. Assumes nothing.
-use Rattle.std.proofs.Common.{◌≡◌, ℕ, zero, suc, ◌+◌, ◌<◌, ◌≤◌, Bool, true, false, cond, not, ◌||◌, List, [], ◌∷◌, ◌++◌, length, get_or, take, sum_by, sym, refl, ap, ◌∙◌, subst, arith}
+use Rattle.std.proofs.Common.{◌≡◌, ◌+◌, ◌≤◌, Bool, true, false, cond, not, List, [], ◌∷◌, ◌++◌, sum_by, sym, refl, ap, ◌∙◌, arith}
 use Rattle.std.specs.List.{filter, list_any}
-use Rattle.std.proofs.lemmas.List.{take_more}
-use Rattle.std.proofs.lemmas.List.Sums.{sum_by-cons, sum_by_more, sum_by-take-le, sum_by_push}
+use Rattle.std.proofs.lemmas.List.Sums.{sum_by-cons, sum_by_push}
 use Rattle.std.proofs.lemmas.Bool.{false≢true}
 use Rattle.std.proofs.lemmas.List.Filters.{sum_by-filter_both}
 use Rattle.model.specs.Automaton.{Automaton}
 use Rattle.model.specs.Rules.{beside}
 use Rattle.model.specs.Lists.{any, every}
 use Rattle.ruletext.specs.declared.rule.ReadRule.{ReadRule}
-use Rattle.ruletext.proofs.Going.{any_push}
 use Rattle.sheet.specs.Added.{meaning, states_of}
 
 -- the library's test of a list is ours

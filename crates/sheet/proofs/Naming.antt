@@ -1,5 +1,5 @@
 -- When two names are the same. Assumes nothing.
-use Rattle.std.proofs.Common.{◌≡◌, ℕ, Bool, true, List, [], ◌∷◌, map, ◌↔◌, refl, ap, ◌∙◌, sym, arith}
+use Rattle.std.proofs.Common.{◌≡◌, ℕ, Bool, true, List, [], ◌∷◌, map, ◌↔◌, refl, ◌∙◌, sym, arith}
 use Rattle.std.specs.Char.{to_ascii_lowercase}
 use Rattle.model.specs.Sheet.{small, same_name}
 use Rattle.model.proofs.Lists.{decides_same}

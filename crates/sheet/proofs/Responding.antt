@@ -1,5 +1,5 @@
 -- A sheet of the code, and the sheet that it stands for, through a call. Assumes nothing.
-use Rattle.std.proofs.Common.{◌≡◌, ℕ, List, Ok, Err, Result, sym, refl, ap, ◌∙◌, subst, arith, Bor}
+use Rattle.std.proofs.Common.{◌≡◌, ℕ, List, Ok, Err, sym, refl, ap, ◌∙◌, subst, arith, Bor}
 use mathlib.Core.Option.{Option, none, some}
 use Rattle.model.specs.Text.{ReadRule}
 use Rattle.model.specs.Reading.{rule_left}
