@@ -1,6 +1,8 @@
 //! Answers the lines of a script.
 
-ghost use Rattle.std.specs.Prelude.{◌≡◌, ◌<◌, IfOk, IfErr};
+ghost use Rattle.std.specs.Prelude.{◌≡◌, ◌<◌, ◌++◌, IfOk, IfErr, OnOk, codes};
+ghost use Rattle.std.specs.Io.KnownBytes.{Appends};
+ghost use Rattle.ragtimuwen.specs.Printed.{not_generated};
 ghost use Rattle.script.specs.Meaning.{meaning_of};
 ghost use Rattle.ragtimuwen.specs.Solvable.{Solvable, Unsolvable};
 
@@ -33,8 +35,8 @@ fn load(rt: &HostRuntime, source: Source) -> io::Result<Vec<u8>> {
     }
 }
 
-#[tactic(auto, unfolding(model::specs::Sheet::look))]
 // Whether a controller can be generated: the numbers and the capacity, the house rule, and the limit are looked at in this order.
+#[tactic(auto, unfolding(model::specs::Sheet::look))]
 fn look(setup: &Setup) -> Result<Numbers, Refusal>
     ensures solvable { IfOk result (λ _. Solvable (meaning_of setup.now.house) setup.now.capacity setup.now.limit) }
     ensures numbers { IfOk result (λ n. (n.situations ≡ setup.now.situations) × (n.commands ≡ setup.now.commands)) }
@@ -178,7 +180,9 @@ impl<'a, W: Write> Answers<'a, W> {
         }
     }
 
-    fn refuse(&mut self, refusal: Refusal) -> io::Result<()> {
+    fn refuse(&mut self, refusal: Refusal) -> io::Result<()>
+        ensures { OnOk result (Appends (W.contents self.old.out.now) (W.contents self.new.out.now) (not_generated refusal ++ codes "\n")) }
+    {
         let refusal = Ungenerated(refusal);
         writeln!(self.out, "{refusal}")
     }

@@ -14,8 +14,8 @@ pub enum Source {
     File(Vec<u8>),
 }
 
-#[tactic(auto, using(crate::proofs::Hex::decoded))]
 /// The bytes that a word writes, or the file that holds them.
+#[tactic(auto, using(crate::proofs::Hex::decoded))]
 pub fn bytes_of(heap: Global, word: &[u8]) -> Result<Source, Fault>
     ensures { IfOk result (λ s. Tells word.now s) }
 {

@@ -74,8 +74,8 @@ impl<'a> Iterator for Words<'a> {
     }
 }
 
-#[tactic(auto, using(crate::proofs::Denoted::one_more))]
 /// The number that a word denotes in decimal digits, if it is not above `most`.
+#[tactic(auto, using(crate::proofs::Denoted::one_more))]
 pub fn number(word: &[u8], most: u16) -> Result<u16, BadLine>
     ensures value { MatchResult result (λ n. Denotes word.now n) (λ fault. Refuses word.now most fault) }
     ensures least { IfOk result (λ n. n ≤ most) }
@@ -89,9 +89,8 @@ pub fn number(word: &[u8], most: u16) -> Result<u16, BadLine>
             .saturating_mul(10)
             .saturating_add(u32::from(*digit - b'0'));
     }
-    if n > u32::from(most) {
-        Err(BadLine::TooLarge)
-    } else {
-        Ok(n as u16)
+    match u16::try_from(n) {
+        Ok(n) if n <= most => Ok(n),
+        _ => Err(BadLine::TooLarge),
     }
 }

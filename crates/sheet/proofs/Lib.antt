@@ -1,6 +1,5 @@
 pub mod Listed
 pub mod Naming
-pub mod Removing
 pub mod Paging
 pub mod Responding
 pub mod Admitting

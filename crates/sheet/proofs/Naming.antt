@@ -1,26 +1,21 @@
 -- When two names are the same. Assumes nothing.
-use Rattle.std.proofs.Common.{◌≡◌, ℕ, ◌<◌, true, false, List, map, length, get_or, sym, ap, ◌∙◌, arith, ext_get_or}
-use Rattle.std.proofs.lemmas.List.{length-map, get_or-map}
-use Rattle.std.proofs.lemmas.Bool.{false≢true}
+use Rattle.std.proofs.Common.{◌≡◌, ℕ, Bool, true, List, [], ◌∷◌, map, ◌↔◌, refl, ◌∙◌, sym, arith}
+use Rattle.std.specs.Char.{to_ascii_lowercase}
 use Rattle.model.specs.Sheet.{small, same_name}
 use Rattle.model.proofs.Lists.{decides_same}
 use Rattle.synthesis.proofs.Deciding.{same_bool}
 
--- not the same if their small letters differ
-pub not_same : (a b : List ℕ) → (map small a ≡ map small b → ⊥) → false ≡ same_name a b
-not_same a b apart =
-    same_bool false (same_name a b) (λ e. absurd (false≢true e)) (λ e. absurd (apart ((decides_same (map small a) (map small b)).0 e)))
+small_letter : (b : ℕ) → to_ascii_lowercase b ≡ small b
+small_letter b = grind arith
 
-pub longer : (a b : List ℕ) → (length a ≡ length b → ⊥) → false ≡ same_name a b
-longer a b apart = not_same a b (λ e. apart (sym (length-map a small) ∙ ap length e ∙ length-map b small))
+small_letters : (name : List ℕ) → map to_ascii_lowercase name ≡ map small name
+small_letters [] = refl
+small_letters (b ∷ name) = let e = small_letter b in let h = small_letters name in cc
 
-pub differs : (a b : List ℕ) (i : ℕ) → i < length a → length a ≡ length b → (small (get_or a i 0) ≡ small (get_or b i 0) → ⊥) → false ≡ same_name a b
-differs a b i l long apart =
-    not_same a b (λ e. apart (sym (get_or-map small a i 0 0 l) ∙ ap {B = ℕ} (λ v. get_or v i 0) e ∙ get_or-map small b i 0 0 (omega arith)))
-
--- the same if each small letter is
-pub alike : (a b : List ℕ) → length a ≡ length b → ((k : ℕ) → k < length a → small (get_or a k 0) ≡ small (get_or b k 0)) → true ≡ same_name a b
-alike a b long h =
-    sym ((decides_same (map small a) (map small b)).1
-    (ext_get_or 0 (map small a) (map small b) (length-map a small ∙ long ∙ sym (length-map b small))
-    (λ k l. let m = length-map a small in let l' : k < length a = omega (arith, m, l) in get_or-map small a k 0 0 l' ∙ h k l' ∙ sym (get_or-map small b k 0 0 (omega arith)))))
+-- they are the same if their small letters are
+pub alike : (a b : List ℕ) (r : Bool) → (r ≡ true) ↔ (map to_ascii_lowercase a ≡ map to_ascii_lowercase b) → r ≡ same_name a b
+alike a b r h =
+    let same = decides_same (map small a) (map small b) in
+    same_bool r (same_name a b)
+    (λ e. same.1 (sym (small_letters a) ∙ h.0 e ∙ small_letters b))
+    (λ e. h.1 (small_letters a ∙ same.0 e ∙ sym (small_letters b)))

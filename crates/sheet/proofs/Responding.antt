@@ -1,5 +1,5 @@
 -- A sheet of the code, and the sheet that it stands for, through a call. Assumes nothing.
-use Rattle.std.proofs.Common.{◌≡◌, ℕ, List, Some, None, Ok, Option as Optional, sym, refl, ap, ◌∙◌, subst, arith, Bor}
+use Rattle.std.proofs.Common.{◌≡◌, ℕ, List, Ok, Err, sym, refl, ap, ◌∙◌, subst, arith, Bor}
 use mathlib.Core.Option.{Option, none, some}
 use Rattle.model.specs.Text.{ReadRule}
 use Rattle.model.specs.Reading.{rule_left}
@@ -12,7 +12,8 @@ use Rattle.model.specs.Sheet.{Sheet, looked, Call, add, withdraw, limit, solve, 
 use Rattle.model.specs.SheetLaws.{Does as Lays, add_blank, add_unlike, add_taken, add_full, adds, withdraw_unknown, withdraws, limit_over, limits, finds, finds_none, crowds, frame_none, frame_large, moves, write_none, write_short, writes, checks}
 use Rattle.model.proofs.Calls.{respond_is, refused_is, does}
 use Rattle.sheet.specs.declared.sheet.Sheet.{Sheet as Kept}
-use Rattle.sheet.specs.Shows.{Shows, Does, Stands, Responds, passing}
+use Rattle.sheet.specs.declared.page.Page.{Page}
+use Rattle.sheet.specs.Shows.{Does, Opens, Stands, Responds, passing}
 
 -- no call changes what the look is at
 look_stays : (s : Sheet) {call : Call} {o : Outcome} → Lays s call o → looked o.sheet ≡ looked s
@@ -80,47 +81,32 @@ passed none v e = refl
 passed (some r) v e = absurd (let z : ◌≡◌ {A = ℕ} 0 1 = cc in omega arith)
 
 module _ {R : Type 0} where
-  -- the look refused
-  pub stood_refused : (k : Kept R) (r : Refusal) (s : Sheet) → k.refusal ≡ Some r → Stands k s → looked s ≡ some r
-  stood_refused k r s e st =
-      let F : Optional Refusal → Type 0 = λ o. elim o [ Some r ↦ looked s ≡ some r | None ↦ (looked s ≡ none) × Shows k.page s ] in subst F e st
-
-  pub stand_refused : (k : Kept R) (r : Refusal) (s : Sheet) → k.refusal ≡ Some r → looked s ≡ some r → Stands k s
-  stand_refused k r s e st =
-      let F : Optional Refusal → Type 0 = λ o. elim o [ Some r ↦ looked s ≡ some r | None ↦ (looked s ≡ none) × Shows k.page s ] in subst F (sym e) st
-
-  -- it did not
-  pub stood_page : (k : Kept R) (s : Sheet) → k.refusal ≡ None → Stands k s → (looked s ≡ none) × Shows k.page s
-  stood_page k s e st =
-      let F : Optional Refusal → Type 0 = λ o. elim o [ Some r ↦ looked s ≡ some r | None ↦ (looked s ≡ none) × Shows k.page s ] in subst F e st
-
-  pub stand_page : (k : Kept R) (s : Sheet) → k.refusal ≡ None → looked s ≡ none → Shows k.page s → Stands k s
-  stand_page k s e l sh =
-      let F : Optional Refusal → Type 0 = λ o. elim o [ Some r ↦ looked s ≡ some r | None ↦ (looked s ≡ none) × Shows k.page s ] in subst F (sym e) (l, sh)
-
   -- a sheet that the look refused gives that refusal from every call, and stays
-  pub refuses : (k : Kept R) (r : Refusal) (call : Call) → k.refusal ≡ Some r → Responds k call (refused r) k
-  refuses k r call e =
-      record {
-        keeps = refl;
-        does = λ s st.
-            let l = stood_refused k r s e st in
-            let is = refused_is s call r l in
-            (sym (ap {B = Answer} (λ (o : Outcome). o.answer) is), subst (Stands k) (sym (ap {B = Sheet} (λ (o : Outcome). o.sheet) is)) st);
-      }
-
-  -- another does what its page does
-  pub responds : (before after : Kept R) (call : Call) (a : Answer) → before.refusal ≡ None → after.refusal ≡ None → after.house ≡ before.house → Does before.page call a after.page → Responds before call a after
-  responds before after call a eb ea eh d =
+  pub refuses : (before after : Kept R) (r : Refusal) (call : Call) → before.page ≡ Err r → after.page ≡ Err r → after.house ≡ before.house → Responds before call (refused r) after
+  refuses before after r call eb ea eh =
       record {
         keeps = eh;
         does = λ s st.
-            let (l, sh) = stood_page before s eb st in
+            let l = subst (Opens s) eb st in
+            let is = refused_is s call r l in (
+              sym (ap {B = Answer} (λ (o : Outcome). o.answer) is),
+              subst (Stands after) (sym (ap {B = Sheet} (λ (o : Outcome). o.sheet) is)) (subst (Opens s) (sym ea) l),
+            );
+      }
+
+  -- another does what its page does
+  pub responds : (before after : Kept R) (p q : Page) (call : Call) (a : Answer) → before.page ≡ Ok p → after.page ≡ Ok q → after.house ≡ before.house → Does p call a q → Responds before call a after
+  responds before after p q call a eb ea eh d =
+      record {
+        keeps = eh;
+        does = λ s st.
+            let (l, sh) = subst (Opens s) eb st in
             let is = respond_is s call l in
             let (said, shown) = d s sh in
-            let stays : looked (on_good_sheet s call).sheet ≡ none = subst (λ (o : Outcome). looked o.sheet ≡ none) is (look_stays s (does s l call) ∙ l) in (
+            let o = on_good_sheet s call in
+            let stays : looked o.sheet ≡ none = subst (λ (o : Outcome). looked o.sheet ≡ none) is (look_stays s (does s l call) ∙ l) in (
               said ∙ sym (ap {B = Answer} (λ (o : Outcome). o.answer) is),
-              subst (Stands after) (sym (ap {B = Sheet} (λ (o : Outcome). o.sheet) is)) (stand_page after (on_good_sheet s call).sheet ea stays shown),
+              subst (Stands after) (sym (ap {B = Sheet} (λ (o : Outcome). o.sheet) is)) (subst (Opens o.sheet) (sym ea) (stays, shown)),
             );
       }
 

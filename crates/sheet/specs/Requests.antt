@@ -102,11 +102,6 @@ module _ {R : Type 0} where
     pub does : (s : Sheet) → Stands before s
         → (a ≡ Added (fault_in (read S C text)) (refusal_in (respond s (add (rule_left S C text))).answer)) × Stands after (respond s (add (rule_left S C text))).sheet
 
-  -- and of a write
-  pub record FileWritten (k : Kept R) (buffer : List ℕ) (a : Answer) (left : List ℕ) : Type 0 where
-    pub does : (s : Sheet) → Stands k s
-        → (a ≡ told (respond s (write buffer)).answer) × (left ≡ held buffer (respond s (write buffer)).answer) × Stands k (respond s (write buffer)).sheet
-
   -- and of requests one after another
   pub record Ran (before : Kept R) (requests : List Request) (output : List ℕ) (answers : List Answer) (left : List ℕ) (after : Kept R) : Type 0 where
     pub keeps : after.house ≡ before.house

@@ -55,10 +55,15 @@ abbrev pub passing : Verdict Refusal → Result (Unit {0}) Refusal
 passing none = Ok tt
 passing (some r) = Err r
 
+-- the look refuses the same, or the page stands for the sheet
+abbrev pub Opens : Sheet → Result Page Refusal → Type 0
+Opens s (Err r) = looked s ≡ some r
+Opens s (Ok page) = (looked s ≡ none) × Shows page s
+
 module _ {R : Type 0} where
   -- a sheet of the code stands for one of the definitions: the look refuses the same, or its page stands for it
   abbrev pub Stands : Kept R → Sheet → Type 0
-  Stands k s = elim k.refusal [ Some r ↦ looked s ≡ some r | None ↦ (looked s ≡ none) × Shows k.page s ]
+  Stands k s = Opens s k.page
 
   -- a call on it: it keeps its house rule; and whatever sheet it stood for, the answer is the one laid down, and it stands then for the
   -- sheet that the call leaves

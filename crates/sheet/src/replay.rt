@@ -1,7 +1,7 @@
 //! Calls one after another on a newly opened sheet.
 
 ghost use Rattle.std.specs.Prelude.{◌≡◌, min, length, take, drop};
-ghost use Rattle.sheet.specs.Requests.{room as room_of, told, TextAdded, FileWritten, Called, Ran};
+ghost use Rattle.sheet.specs.Requests.{room as room_of, told, TextAdded, Called, Ran};
 ghost use Rattle.sheet.specs.Shows.{settled, solution, commanded};
 ghost use Rattle.sheet.specs.Replayed.{Replayed};
 ghost use Rattle.model.specs.Sheet.{verdict};
@@ -27,42 +27,6 @@ impl Request<'_> {
     }
 }
 
-fn settle(res: Result<(), Refusal>) -> Answer
-    ensures { result ≡ told (settled res) }
-{
-    match res {
-        Ok(()) => Answer::Done,
-        Err(refusal) => Answer::Refused(refusal),
-    }
-}
-
-fn count(res: Result<Solution, Refusal>) -> Answer
-    ensures { result ≡ told (solution res) }
-{
-    match res {
-        Ok(solution) => Answer::Counted(solution),
-        Err(refusal) => Answer::Refused(refusal),
-    }
-}
-
-fn command(res: Result<u8, Refusal>) -> Answer
-    ensures { result ≡ told (commanded res) }
-{
-    match res {
-        Ok(command) => Answer::Command(command),
-        Err(refusal) => Answer::Refused(refusal),
-    }
-}
-
-fn accept(res: Result<u8, Refusal>) -> Answer
-    ensures { result ≡ told (verdict res) }
-{
-    match res {
-        Ok(c) => Answer::Accepted(c),
-        Err(refusal) => Answer::Refused(refusal),
-    }
-}
-
 impl<R: Rule> Sheet<R> {
     /// Reads a text, and adds the rule that reading leaves.
     fn add_text(&mut self, text: &[u8], situations: u8, commands: u8) -> Answer
@@ -72,16 +36,6 @@ impl<R: Rule> Sheet<R> {
         let fault = read(text, situations, commands, &mut rule).err();
         let refusal = self.add(rule).err();
         Answer::Added { fault, refusal }
-    }
-
-    /// Writes into the buffer.
-    fn write_into(&self, buffer: &mut [u8]) -> Answer
-        ensures { FileWritten self.now buffer.old result buffer.new }
-    {
-        match self.write(buffer) {
-            Ok(len) => Answer::Wrote(len),
-            Err(refusal) => Answer::Refused(refusal),
-        }
     }
 
     /// Makes one call.
@@ -94,12 +48,22 @@ impl<R: Rule> Sheet<R> {
                 situations,
                 commands,
             } => self.add_text(text, situations, commands),
-            Request::Withdraw(name) => settle(self.withdraw(name)),
-            Request::Limit(limit) => settle(self.limit(limit)),
-            Request::Solve => count(self.solve()),
-            Request::Frame(situation) => command(self.frame(situation)),
-            Request::Write(_) => self.write_into(buffer),
-            Request::Check(file) => accept(self.check(file)),
+            Request::Withdraw(name) => self
+                .withdraw(name)
+                .map_or_else(Answer::Refused, |()| Answer::Done),
+            Request::Limit(limit) => self
+                .limit(limit)
+                .map_or_else(Answer::Refused, |()| Answer::Done),
+            Request::Solve => self.solve().map_or_else(Answer::Refused, Answer::Counted),
+            Request::Frame(situation) => self
+                .frame(situation)
+                .map_or_else(Answer::Refused, Answer::Command),
+            Request::Write(_) => self
+                .write(buffer)
+                .map_or_else(Answer::Refused, Answer::Wrote),
+            Request::Check(file) => self
+                .check(file)
+                .map_or_else(Answer::Refused, Answer::Accepted),
         }
     }
 
@@ -109,6 +73,7 @@ impl<R: Rule> Sheet<R> {
         ensures rest { drop (min (length requests.now) (length answers.old)) answers.new ≡ drop (min (length requests.now) (length answers.old)) answers.old }
     {
         let mut at = 0;
+        // By index: of what an iterator lends to be written, a proof knows nothing afterwards.
         for i in 0..requests.len().min(answers.len()) {
             let end = at + requests[i].room().min(output.len() - at);
             answers[i] = self.call(&requests[i], &mut output[at..end]);

@@ -1,17 +1,17 @@
 //! Add, withdraw and limit. Each, when accepted, discards the stored controller.
 
-ghost use Rattle.std.specs.Prelude.{◌≡◌, not, vec_capacity};
+ghost use Rattle.std.specs.Prelude.{◌≡◌, ◌<◌, not, sum_by, vec_capacity};
 ghost use Rattle.std.specs.List.{filter};
 ghost use Rattle.model.specs.Sheet.{add as add_call, withdraw as withdraw_call, limit as limit_call};
 ghost use Rattle.ruletext.specs.View.{view};
 ghost use Rattle.synthesis.specs.Tables.{automaton};
-ghost use Rattle.sheet.specs.Added.{has_that_name, states_of, admission};
+ghost use Rattle.sheet.specs.Added.{meaning, has_that_name, states_of, admission};
 ghost use Rattle.sheet.specs.Shows.{Does, settled};
 
 use crate::names::{has_name, same_name};
 use crate::page::Page;
 use model::refusal::Refusal;
-use rules::Rule;
+use rules::{Numbers, Rule};
 use ruletext::ReadRule;
 
 /// Takes out the rules of the name, and closes the gap.
@@ -19,35 +19,32 @@ fn remove_named(rules: &mut Vec<ReadRule>, name: &[u8])
     ensures items { rules.new.items ≡ filter (λ r. not (has_that_name name.now r)) rules.old.items }
     ensures capacity { vec_capacity rules.new ≡ vec_capacity rules.old }
 {
-    let mut i = rules.len();
-    while i > 0 {
-        i -= 1;
-        if same_name(name, rules[i].name()) {
-            let _rule = rules.remove(i);
-        }
-    }
+    rules.retain(|rule| !same_name(name, rule.name()));
+}
+
+/// How many states the rules have together.
+fn states_together(rules: &[ReadRule]) -> u8
+    requires { sum_by (λ r. (meaning r).states) rules.now < 256 }
+    ensures { result ≡ sum_by (λ r. (meaning r).states) rules.now }
+{
+    rules.iter().map(|rule| rule.states()).sum()
 }
 
 impl Page {
     /// How many states the rules have together.
+    #[tactic(auto, using(crate::proofs::Listed::states_sum))]
     fn states(&self) -> u8
         ensures { result ≡ states_of (automaton self.now.table.arrows) self.now.added.items }
     {
-        let mut states = self.table.states();
-        for rule in self.added.iter() {
-            states += rule.states();
-        }
-        states
+        self.table.states() + states_together(&self.added)
     }
 
     /// Whether the rule may be added, and why not.
+    #[tactic(auto, unfolding(crate::specs::Added::admission))]
     fn admits(&self, rule: &ReadRule) -> Result<(), Refusal>
         ensures { result ≡ admission (automaton self.now.table.arrows) self.now.added.items (view rule.now) }
     {
-        if rule.is_blank()
-            || rule.situations() != self.table.situations()
-            || rule.commands() != self.table.commands()
-        {
+        if rule.is_blank() || Numbers::of(rule) != Numbers::of(&self.table) {
             return Err(Refusal::UnlikeRule);
         }
         if has_name(&self.added, rule.name()) {

@@ -16,11 +16,7 @@ use synthesis::state::State;
 pub fn command_at(states: &[State], state: usize) -> u8
     ensures { (S : ℕ) → result ≡ (slice_index_or (map (row_of S) states.now) state no_row).command }
 {
-    if state < states.len() {
-        states[state].command
-    } else {
-        0
-    }
+    states.get(state).map_or(0, |state| state.command)
 }
 
 /// The next state of a state in a situation; 0 if there is no such state.
@@ -28,11 +24,9 @@ fn next_at(states: &[State], state: usize, situation: u8) -> usize
     requires { situation < 8 }
     ensures { (S : ℕ) → situation < S → result ≡ slice_index (slice_index_or (map (row_of S) states.now) state no_row).nexts situation }
 {
-    if state < states.len() {
-        states[state].nexts[situation as usize] as usize
-    } else {
-        0
-    }
+    states
+        .get(state)
+        .map_or(0, |state| state.nexts[situation as usize] as usize)
 }
 
 impl Page {

@@ -4,31 +4,45 @@ ghost use Rattle.std.specs.Prelude.{◌≡◌, Err};
 ghost use Rattle.model.specs.declared.refusal.Refusal.{Refusal};
 ghost use Rattle.model.specs.Sheet.{look as look_at, opened, add as add_call, withdraw as withdraw_call, limit as limit_call, solve as solve_call, frame as frame_call, write as write_call, check as check_call, verdict};
 ghost use Rattle.ruletext.specs.View.{view};
-ghost use Rattle.sheet.specs.Shows.{Stands, Responds, passing, settled, solution, commanded, written};
+ghost use Rattle.sheet.specs.Shows.{Opens, Stands, Responds, passing, settled, solution, commanded, written};
 
 use crate::memory::Memory;
 use crate::page::Page;
 use crate::sheet::Sheet;
 use crate::stored::Solution;
 use model::refusal::Refusal;
-use rules::{Free, Rule};
+use rules::{Numbers, Rule};
 use ruletext::ReadRule;
 
 /// What open would be refused: numbers of situations or commands outside 1 to 8, or a capacity outside 1 to 1,024; or a house rule with
 /// over 12 states, or for other numbers.
+#[tactic(auto, unfolding(model::specs::Sheet::look))]
 pub fn look<R: Rule>(house: &R, situations: u8, commands: u8, capacity: u16) -> Result<(), Refusal>
     ensures { result ≡ passing (look_at (R.Rule.meaning house.now) situations commands capacity) }
 {
-    if situations < 1 || situations > 8 || commands < 1 || commands > 8 {
+    let numbers = Numbers::within(situations, commands).ok_or(Refusal::OutOfRange)?;
+    if !(1..=1024).contains(&capacity) {
         return Err(Refusal::OutOfRange);
     }
-    if capacity < 1 || capacity > 1024 {
-        return Err(Refusal::OutOfRange);
-    }
-    if house.states() > 12 || house.situations() != situations || house.commands() != commands {
+    if house.states() > 12 || Numbers::of(house) != numbers {
         return Err(Refusal::HouseRule);
     }
     Ok(())
+}
+
+/// The page of a newly opened sheet, or what the look refuses.
+#[tactic(auto, unfolding(model::specs::Sheet::look))]
+fn new_page<R: Rule>(
+    house: &R,
+    situations: u8,
+    commands: u8,
+    capacity: u16,
+    memory: Memory,
+) -> Result<Page, Refusal>
+    ensures { Opens (opened (R.Rule.meaning house.now) situations commands capacity) result }
+{
+    look(house, situations, commands, capacity)?;
+    Ok(Page::new(house, capacity, memory))
 }
 
 impl<R: Rule> Sheet<R> {
@@ -38,33 +52,17 @@ impl<R: Rule> Sheet<R> {
         ensures house { result.house ≡ house }
         ensures opened { Stands result (opened (R.Rule.meaning house) situations commands capacity) }
     {
-        match look(&house, situations, commands, capacity) {
-            Ok(()) => {
-                let page = Page::new(&house, capacity, memory);
-                Sheet {
-                    house,
-                    refusal: None,
-                    page,
-                }
-            }
-            Err(refusal) => {
-                let page = Page::new(&Free::new(1, 1), 1, memory);
-                Sheet {
-                    house,
-                    refusal: Some(refusal),
-                    page,
-                }
-            }
-        }
+        let page = new_page(&house, situations, commands, capacity, memory);
+        Sheet { house, page }
     }
 
     /// Adds a rule that was read behind the others. The rule is used up, also if it is refused.
     pub fn add(&mut self, rule: ReadRule) -> Result<(), Refusal>
         ensures { Responds self.old (add_call (view rule)) (settled result) self.new }
     {
-        match self.refusal {
-            Some(refusal) => Err(refusal),
-            None => self.page.add(rule),
+        match &mut self.page {
+            Ok(page) => page.add(rule),
+            Err(refusal) => Err(*refusal),
         }
     }
 
@@ -72,9 +70,9 @@ impl<R: Rule> Sheet<R> {
     pub fn withdraw(&mut self, name: &[u8]) -> Result<(), Refusal>
         ensures { Responds self.old (withdraw_call name.now) (settled result) self.new }
     {
-        match self.refusal {
-            Some(refusal) => Err(refusal),
-            None => self.page.withdraw(name),
+        match &mut self.page {
+            Ok(page) => page.withdraw(name),
+            Err(refusal) => Err(*refusal),
         }
     }
 
@@ -82,9 +80,9 @@ impl<R: Rule> Sheet<R> {
     pub fn limit(&mut self, limit: u8) -> Result<(), Refusal>
         ensures { Responds self.old (limit_call limit) (settled result) self.new }
     {
-        match self.refusal {
-            Some(refusal) => Err(refusal),
-            None => self.page.limit(limit),
+        match &mut self.page {
+            Ok(page) => page.limit(limit),
+            Err(refusal) => Err(*refusal),
         }
     }
 
@@ -92,9 +90,9 @@ impl<R: Rule> Sheet<R> {
     pub fn solve(&mut self) -> Result<Solution, Refusal>
         ensures { Responds self.old solve_call (solution result) self.new }
     {
-        match self.refusal {
-            Some(refusal) => Err(refusal),
-            None => self.page.solve(),
+        match &mut self.page {
+            Ok(page) => page.solve(),
+            Err(refusal) => Err(*refusal),
         }
     }
 
@@ -102,9 +100,9 @@ impl<R: Rule> Sheet<R> {
     pub fn frame(&mut self, situation: u8) -> Result<u8, Refusal>
         ensures { Responds self.old (frame_call situation) (commanded result) self.new }
     {
-        match self.refusal {
-            Some(refusal) => Err(refusal),
-            None => self.page.frame(situation),
+        match &mut self.page {
+            Ok(page) => page.frame(situation),
+            Err(refusal) => Err(*refusal),
         }
     }
 
@@ -114,9 +112,9 @@ impl<R: Rule> Sheet<R> {
         ensures said { Responds self.now (write_call buffer.old) (written result buffer.new) self.now }
         ensures left { (e : Refusal) → result ≡ Err e → buffer.new ≡ buffer.old }
     {
-        match self.refusal {
-            Some(refusal) => Err(refusal),
-            None => self.page.write(buffer),
+        match &self.page {
+            Ok(page) => page.write(buffer),
+            Err(refusal) => Err(*refusal),
         }
     }
 
@@ -124,9 +122,9 @@ impl<R: Rule> Sheet<R> {
     pub fn check(&self, file: &[u8]) -> Result<u8, Refusal>
         ensures { Responds self.now (check_call file.now) (verdict result) self.now }
     {
-        match self.refusal {
-            Some(refusal) => Err(refusal),
-            None => self.page.check(file),
+        match &self.page {
+            Ok(page) => page.check(file),
+            Err(refusal) => Err(*refusal),
         }
     }
 
@@ -134,11 +132,7 @@ impl<R: Rule> Sheet<R> {
     pub fn close(self) -> R
         ensures { result ≡ self.house }
     {
-        let Sheet {
-            house,
-            refusal: _,
-            page: _,
-        } = self;
+        let Sheet { house, page: _ } = self;
         house
     }
 }

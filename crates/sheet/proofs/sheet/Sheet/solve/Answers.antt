@@ -2,10 +2,8 @@ use Rattle.std.proofs.Common.{refl}
 use Rattle.sheet.proofs.Responding.{refuses, responds}
 use Rattle.sheet.proofs.sheet.Sheet.solve.Goals as goal
 
-pub returns-in-Some : goal.returns-in-Some
-returns-in-Some g c = refuses {R = g.row.R.Denot} c.args.self.now _ _ c.in-Some.is
+pub returns-in-Ok : goal.returns-in-Ok
+returns-in-Ok g c = responds {R = g.row.R.Denot} c.args.self.now _ _ _ _ _ c.in-Ok.is refl refl c.solve.ensures
 
-pub returns-in-None : goal.returns-in-None
-returns-in-None g c =
-    responds {R = g.row.R.Denot} c.args.self.now (record { house = c.args.self.now.house; refusal = c.args.self.now.refusal; page = c.solve.new.self }) _ _ c.in-None.is c.in-None.is refl
-    c.solve.ensures
+pub returns-in-Err : goal.returns-in-Err
+returns-in-Err g c = refuses {R = g.row.R.Denot} c.args.self.now _ _ _ c.in-Err.is refl refl

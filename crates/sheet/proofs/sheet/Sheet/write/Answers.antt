@@ -2,12 +2,8 @@ use Rattle.std.proofs.Common.{refl}
 use Rattle.sheet.proofs.Responding.{refuses, responds}
 use Rattle.sheet.proofs.sheet.Sheet.write.Goals as goal
 
-pub returns-in-Some : goal.returns-in-Some
-returns-in-Some g c = record { said = refuses {R = g.row.R.Denot} c.args.self.now _ _ c.in-Some.is; left = λ e h. refl }
+pub returns-in-Ok-clause-said : goal.returns-in-Ok-clause-said
+returns-in-Ok-clause-said g c = responds {R = g.row.R.Denot} c.args.self.now _ _ _ _ _ c.in-Ok.is c.in-Ok.is refl c.write.ensures.said
 
-pub returns-in-None : goal.returns-in-None
-returns-in-None g c =
-    record {
-      said = responds {R = g.row.R.Denot} c.args.self.now c.args.self.now _ _ c.in-None.is c.in-None.is refl c.write.ensures.said;
-      left = c.write.ensures.left;
-    }
+pub returns-in-Err-clause-said : goal.returns-in-Err-clause-said
+returns-in-Err-clause-said g c = refuses {R = g.row.R.Denot} c.args.self.now _ _ _ c.in-Err.is c.in-Err.is refl
