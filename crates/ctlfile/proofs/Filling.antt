@@ -1,7 +1,7 @@
 -- A part of a file that is filled from its front, piece by piece. Assumes nothing.
-use Rattle.std.proofs.Common.{◌≡◌, ℕ, ◌+◌, ◌<◌, ◌≤◌, List, [], ◌∷◌, ◌++◌, map, length, get_or, take, sym, ap, ◌∙◌, append-nil, arith}
+use Rattle.std.proofs.Common.{◌≡◌, ℕ, ◌+◌, ◌<◌, ◌≤◌, List, [], ◌∷◌, ◌++◌, length, get_or, take, sym, ap, ◌∙◌, append-nil, arith}
 use borrow.Rule.Slice.PartMut.{put_mid}
-use Rattle.std.proofs.lemmas.List.{take_more, take_all, get_or-map, length-map, take-map}
+use Rattle.std.proofs.lemmas.List.{take_more, take_all}
 use Rattle.std.proofs.lemmas.Slice.{take-put_mid}
 use Rattle.model.specs.Lists.{joined}
 use Rattle.model.proofs.Lists.{joined_append}
@@ -12,14 +12,6 @@ joined_step {X} f xs i d h =
     ap {B = List ℕ} (joined f) (take_more xs i d h)
     ∙ joined_append f (take i xs) (get_or xs i d ∷ [])
     ∙ ap {B = List ℕ} (λ l. joined f (take i xs) ++ l) (append-nil (f (get_or xs i d)))
-
-pub joined_map_step : {X Y : Type 0} (f : Y → List ℕ) (g : X → Y) (xs : List X) (i : ℕ) (d : X) → i < length xs
-    → joined f (map g (take (i + 1) xs)) ≡ joined f (map g (take i xs)) ++ f (g (get_or xs i d))
-joined_map_step {X} {Y} f g xs i d h =
-    let l : i < length (map g xs) = omega (arith, length-map xs g) in
-    ap {B = List ℕ} (joined f) (sym (take-map g (i + 1) xs))
-    ∙ joined_step f (map g xs) i (g d) l
-    ∙ (λ j. joined f (take-map g i xs j) ++ f (get_or-map g xs i d (g d) h j))
 
 -- a piece behind what is filled
 pub filled_more : (a k n : ℕ) (part ys front : List ℕ) → take a part ≡ front → length ys ≡ k → a ≤ length part → n ≡ a + k → take n (put_mid a k part ys) ≡ front ++ ys

@@ -8,19 +8,8 @@ two_read [] = omega arith
 two_read (a ∷ []) = omega arith
 two_read (a ∷ b ∷ l) = omega arith
 
-four_read : (l : List ℕ) → number_of (take 4 l) ≡ get_or l 0 0 + get_or l 1 0 * 256 + get_or l 2 0 * 65536 + get_or l 3 0 * 16777216
-four_read [] = omega arith
-four_read (a ∷ []) = omega arith
-four_read (a ∷ b ∷ []) = omega arith
-four_read (a ∷ b ∷ c ∷ []) = omega arith
-four_read (a ∷ b ∷ c ∷ d ∷ l) = omega arith
-
 pub two_at : (at : ℕ) (l : List ℕ) → number_of (piece at 2 l) ≡ get_or l at 0 + get_or l (at + 1) 0 * 256
 two_at at l = omega (arith, two_read (drop at l), get_or-drop at l 0 0 ∙ ap (λ k. get_or l k 0) (add-zero at), get_or-drop at l 1 0)
-
-pub four_at : (at : ℕ) (l : List ℕ) → number_of (piece at 4 l) ≡ get_or l at 0 + get_or l (at + 1) 0 * 256 + get_or l (at + 2) 0 * 65536 + get_or l (at + 3) 0 * 16777216
-four_at at l =
-    omega (arith, four_read (drop at l), get_or-drop at l 0 0 ∙ ap (λ k. get_or l k 0) (add-zero at), get_or-drop at l 1 0, get_or-drop at l 2 0, get_or-drop at l 3 0)
 
 -- the bytes of a number as they are written
 pub four_bytes : (v : ℕ) → v % 256 ∷ v / 256 % 256 ∷ v / 65536 % 256 ∷ v / 16777216 % 256 ∷ [] ≡ bytes_of 4 v

@@ -6,11 +6,6 @@ use Rattle.ctlfile.specs.Windows.{shown}
 use Rattle.ctlfile.proofs.Broken.{not_records, broken, whole, count_shown}
 use Rattle.ctlfile.proofs.checking.check.Goals as goal
 
-pub window_on-window-requires : goal.window_on-window-requires
-window_on-window-requires g c =
-    let t = c.in_ok-trailer.ensures in
-    record { states = (t.some_state, t.few_states); count = t.low_count; room = t.room }
-
 pub returns-then-not-has_good_records : goal.returns-then-not-has_good_records
 returns-then-not-has_good_records g c =
     let A = g.R.Rule.meaning c.args.rule.now in

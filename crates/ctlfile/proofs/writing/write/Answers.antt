@@ -1,5 +1,4 @@
-use Rattle.std.proofs.Common.{◌≡◌, ℕ, ◌+◌, ◌-◌, ◌*◌, ◌≤◌, length, ap, ◌∙◌, arith}
-use Rattle.std.proofs.lemmas.List.{length-take-le}
+use Rattle.std.proofs.Common.{◌≡◌, ℕ, ◌+◌, ◌*◌, length, ap, ◌∙◌, arith}
 use Rattle.model.specs.File.{tallies}
 use Rattle.ctlfile.specs.declared.trailer.Trailer.{Trailer}
 use Rattle.ctlfile.proofs.Putting.{refused_said, refused_left, put_said, put_left}
@@ -14,14 +13,6 @@ returns-then-buffer-body g c =
       said = refused_said A c.args.states.now c.args.count t c.trailer_for-trailer.ensures.told body c.body_size-body.ensures.takes c.args.buffer.now c.if-buffer-body.true;
       left = refused_left A c.args.states.now c.args.count t c.trailer_for-trailer.ensures.told body c.body_size-body.ensures.takes c.args.buffer.now c.if-buffer-body.true;
     }
-
-pub write_records-requires : goal.write_records-requires
-write_records-requires g c =
-    let t = c.trailer_for-trailer.result in
-    let m : t.states ≡ length c.args.states.now = ap {B = ℕ} (λ (u : Trailer). u.states) c.trailer_for-trailer.ensures.told in
-    let size : c.records_size-records.result ≡ length c.args.states.now * (1 + 2 * t.situations) = c.records_size-records.ensures ∙ ap {B = ℕ} (λ k. k * (1 + 2 * t.situations)) m in
-    let inside : c.records_size-records.result - 0 ≤ length c.args.buffer.now = omega (arith, size, c.body_size-body.ensures.counted, c.if-buffer-body.false) in
-    record { few = c.trailer_for-trailer.ensures.few; room = omega (arith, length-take-le (c.records_size-records.result - 0) c.args.buffer.now inside, size) }
 
 pub returns : goal.returns
 unfolding tallies
