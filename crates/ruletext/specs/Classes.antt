@@ -17,6 +17,3 @@ passing class.Letter b = letter b
 abbrev pub seen : (ℕ → Bool) → List ℕ → Bool
 seen test [] = false
 seen test (b ∷ rest) = test b
-
-abbrev pub same : ℕ → ℕ
-same n = n

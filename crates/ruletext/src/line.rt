@@ -2,7 +2,6 @@
 
 ghost use Rattle.std.specs.Prelude.{◌≡◌};
 ghost use Rattle.model.specs.Reading.{n_words, digit as model_digit, choice as model_choice, digits as model_digits, s_words, r_words, t_words};
-ghost use Rattle.ruletext.specs.Classes.{same};
 ghost use Rattle.ruletext.specs.Lines.{picked, ReadsLine};
 ghost use Rattle.ruletext.specs.Ranges.{below};
 ghost use Rattle.ruletext.specs.Tables.{taken};
@@ -72,7 +71,7 @@ pub enum Line<'a> {
 }
 
 impl<'a> Cursor<'a> {
-    ghost use Rattle.ruletext.specs.Tokens.{Reads};
+    ghost use Rattle.ruletext.specs.Tokens.{Reads, same};
     ghost use Rattle.ruletext.specs.Lines.{name_line, size_line, states_in, rejects_line, arrows_line, line_of, line_reader};
 
     // A space, and a digit behind it.

@@ -28,11 +28,11 @@ fn leads(table: &Table, from: u8, to: u8) -> bool
 
 // The states of a rule as a graph, by its arrows: a state leads to each that follows it, under some command in some situation.
 #[derive(Clone, Copy)]
-struct Arrows<'a> {
+struct StateGraph<'a> {
     table: &'a Table,
 }
 
-impl Graph for Arrows<'_> {
+impl Graph for StateGraph<'_> {
     type Node = u8;
 
     ghost same = { λ g a b. (a == b) };
@@ -63,7 +63,7 @@ impl Graph for Arrows<'_> {
 pub fn all_reached(table: &Table, states: States) -> bool
     ensures { (S C : ℕ) → Within S C states.count table.now.arrows → Decides result (AllReached (automaton S C states.count states.start table.now.rejecting table.now.arrows)) }
 {
-    let graph = Arrows { table };
+    let graph = StateGraph { table };
     let mut met = [0; 8];
     let mut waiting = [0; 8];
     let mut links = [0; 64];

@@ -4,7 +4,7 @@ ghost use Rattle.std.specs.Prelude.{◌≡◌, ◌+◌, ◌^◌, ◌<◌, ◌≤
 ghost use Rattle.std.specs.List.{take_while};
 ghost use Rattle.model.specs.Text.{name_byte};
 ghost use Rattle.model.specs.Reading.{byte as model_byte, letter as model_letter, n_words, digit as model_digit, choice as model_choice};
-ghost use Rattle.ruletext.specs.Classes.{passing, seen, same};
+ghost use Rattle.ruletext.specs.Classes.{passing, seen};
 
 use model::fault::WordFault;
 
@@ -40,10 +40,7 @@ impl Class {
             Class::Digit => b.is_ascii_digit(),
             Class::Choice => b.is_ascii_digit() || b == b'*',
             Class::Name => b.is_ascii_alphanumeric(),
-            Class::Letter => match b as char {
-                'n' | 's' | 'r' | 't' => true,
-                _ => false,
-            },
+            Class::Letter => matches!(b as char, 'n' | 's' | 'r' | 't'),
         }
     }
 }
@@ -68,7 +65,7 @@ pub struct Cursor<'a> {
 }
 
 impl<'a> Cursor<'a> {
-    ghost use Rattle.ruletext.specs.Tokens.{Reads, Tokens, IsLetter, IsName, IsDigit, IsChoice};
+    ghost use Rattle.ruletext.specs.Tokens.{Reads, Tokens, same, IsLetter, IsName, IsDigit, IsChoice};
 
     /// The front of the line that the text begins with.
     pub(crate) fn new(text: &'a [u8], line: usize) -> Cursor<'a>
@@ -106,10 +103,7 @@ impl<'a> Cursor<'a> {
     pub(crate) fn sees(&self, class: Class) -> bool
         ensures { result ≡ seen (passing class) self.now.rest.now }
     {
-        match self.rest.first() {
-            Some(b) => class.contains(*b),
-            None => false,
-        }
+        self.rest.first().is_some_and(|b| class.contains(*b))
     }
 
     /// One byte of the class.
