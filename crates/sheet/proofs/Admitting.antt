@@ -1,34 +1,23 @@
 -- When a rule may be added. Assumes nothing.
-use Rattle.std.proofs.Common.{◌≡◌, ℕ, ◌+◌, ◌<◌, ◌≤◌, Bool, true, false, ◌&&◌, eqb, ltb, leb, ◌⊎◌, List, [], ◌∷◌, ◌++◌, length, Ok, Err, vec_items, Result, sym, refl, ap, ◌∙◌, inl, inr, arith}
-use Rattle.std.proofs.lemmas.Bool.{false≢true, eq-eqb, and_left, and_right, and_from, and_parts, lt-ltb, le-ltb, le-leb, lt-leb, ltb-true, leb-true}
+use Rattle.std.proofs.Common.{◌≡◌, ℕ, ◌+◌, ◌<◌, ◌≤◌, Bool, true, false, ◌&&◌, eqb, ltb, leb, List, [], ◌∷◌, ◌++◌, length, Ok, Err, vec_items, Result, sym, refl, ap, ◌∙◌, arith}
+use Rattle.std.proofs.lemmas.Bool.{and_parts, ltb-true, leb-true}
 use Rattle.model.specs.declared.refusal.Refusal.{Refusal}
 use Rattle.model.specs.declared.refusal.Refusal.TheVariants.{UnlikeRule, NameTaken, NoRoom}
 use Rattle.model.specs.Automaton.{Automaton}
 use Rattle.model.specs.Lists.{any}
-use Rattle.model.specs.Text.{Named, ReadRule as Rule, blank, filled, rule_meaning}
+use Rattle.model.specs.Text.{Named, ReadRule as Rule, blank, filled}
 use Rattle.model.specs.Sheet.{Sheet, same_name, rules, with_added, add_to, Outcome, answers, done, refused}
 use Rattle.ruletext.specs.declared.rule.ReadRule.{ReadRule}
-use Rattle.ruletext.specs.View.{name_of, is_blank}
 use Rattle.synthesis.specs.Tables.{automaton}
 use Rattle.sheet.specs.declared.page.Page.{Page}
 use Rattle.sheet.specs.Shows.{Shows}
 use Rattle.sheet.specs.Added.{has_that_name, states_of, admission}
 use Rattle.sheet.proofs.Paging.{rules_agree, same_any, same_length}
 
--- the three tests
-abbrev Tests : Type 0
-Tests = Bool × (Bool × Bool)
-
 abbrev verdict_of : Bool → Bool → Bool → Result (Unit {0}) Refusal
 verdict_of like taken room = elim like [ false ↦ Err UnlikeRule | true ↦ elim taken [ true ↦ Err NameTaken | false ↦ elim room [ false ↦ Err NoRoom | true ↦ Ok tt ] ] ]
 
 module _ (H : Automaton) (kept : List ReadRule) where
-  like : Named → Bool
-  like n = eqb n.rule.situations H.situations && eqb n.rule.commands H.commands
-
-  room : Named → Bool
-  room n = ltb (length kept) 4 && leb (states_of H kept + n.rule.states) 16
-
   by_tests : (n : Named) (l t r : Bool) → (eqb n.rule.situations H.situations && eqb n.rule.commands H.commands) ≡ l → any (has_that_name n.name) kept ≡ t
       → (ltb (length kept) 4 && leb (states_of H kept + n.rule.states) 16) ≡ r → admission H kept (filled n) ≡ verdict_of l t r
   unfolding admission
@@ -36,38 +25,6 @@ module _ (H : Automaton) (kept : List ReadRule) where
       ap {B = Result (Unit {0}) Refusal} (λ v. verdict_of v (any (has_that_name n.name) kept) (ltb (length kept) 4 && leb (states_of H kept + n.rule.states) 16)) el
       ∙ ap {B = Result (Unit {0}) Refusal} (λ v. verdict_of l v (ltb (length kept) 4 && leb (states_of H kept + n.rule.states) 16)) et
       ∙ ap {B = Result (Unit {0}) Refusal} (verdict_of l t) er
-
-  -- a blank rule, or one for other numbers
-  pub admit_blank : (v : Rule) → is_blank v ≡ true → Err UnlikeRule ≡ admission H kept v
-  unfolding admission
-  admit_blank blank e = refl
-  admit_blank (filled n) e = absurd (false≢true e)
-
-  pub admit_unlike : (v : Rule) → is_blank v ≡ false → (eqb (rule_meaning v).situations H.situations && eqb (rule_meaning v).commands H.commands) ≡ false → Err UnlikeRule ≡ admission H kept v
-  unfolding admission
-  admit_unlike blank b e = refl
-  admit_unlike (filled n) b e = sym (by_tests n false _ _ e refl refl)
-
-  -- what holds from here on
-  abbrev pub Fit : Rule → Type 0
-  Fit v = (is_blank v ≡ false) × ((rule_meaning v).situations ≡ H.situations) × ((rule_meaning v).commands ≡ H.commands)
-
-  fits : (n : Named) → Fit (filled n) → (eqb n.rule.situations H.situations && eqb n.rule.commands H.commands) ≡ true
-  fits n f = and_from _ _ (eq-eqb n.rule.situations H.situations f.1) (eq-eqb n.rule.commands H.commands f.2)
-
-  pub admit_taken : (v : Rule) → Fit v → any (has_that_name (name_of v)) kept ≡ true → Err NameTaken ≡ admission H kept v
-  admit_taken blank f e = absurd (false≢true (sym f.0))
-  admit_taken (filled n) f e = sym (by_tests n true true _ (fits n f) e refl)
-
-  pub admit_full : (v : Rule) → Fit v → any (has_that_name (name_of v)) kept ≡ false → (4 ≤ length kept) ⊎ (16 < states_of H kept + (rule_meaning v).states) → Err NoRoom ≡ admission H kept v
-  admit_full blank f e w = absurd (false≢true (sym f.0))
-  admit_full (filled n) f e (inl w) = sym (by_tests n true false false (fits n f) e (and_left _ _ (le-ltb (length kept) 4 w)))
-  admit_full (filled n) f e (inr w) = sym (by_tests n true false false (fits n f) e (and_right (ltb (length kept) 4) _ (lt-leb (states_of H kept + n.rule.states) 16 w)))
-
-  pub admit_ok : (v : Rule) → Fit v → any (has_that_name (name_of v)) kept ≡ false → length kept < 4 → states_of H kept + (rule_meaning v).states ≤ 16 → Ok tt ≡ admission H kept v
-  admit_ok blank f e l w = absurd (false≢true (sym f.0))
-  admit_ok (filled n) f e l w =
-      sym (by_tests n true false true (fits n f) e (and_from _ _ (lt-ltb (length kept) 4 l) (le-leb (states_of H kept + n.rule.states) 16 w)))
 
   -- what an admission says
   pub record Admitted (v : Rule) : Type 0 where

@@ -1,8 +1,7 @@
 -- Tests on lists, and sums over the states of rules. Assumes nothing.
-use Rattle.std.proofs.Common.{◌≡◌, ◌+◌, ◌≤◌, Bool, true, false, cond, not, List, [], ◌∷◌, ◌++◌, sum_by, sym, refl, ap, ◌∙◌, arith}
+use Rattle.std.proofs.Common.{◌≡◌, ◌+◌, ◌≤◌, Bool, true, not, List, [], ◌∷◌, ◌++◌, sum_by, refl, arith}
 use Rattle.std.specs.List.{filter, list_any}
 use Rattle.std.proofs.lemmas.List.Sums.{sum_by-cons, sum_by_push}
-use Rattle.std.proofs.lemmas.Bool.{false≢true}
 use Rattle.std.proofs.lemmas.List.Filters.{sum_by-filter_both}
 use Rattle.model.specs.Automaton.{Automaton}
 use Rattle.model.specs.Rules.{beside}
@@ -35,20 +34,8 @@ states_kept H p rules =
 -- what every one passes, some of them pass, and one more that passes
 pub every_kept : {X : Type 0} (f p : X → Bool) (xs : List X) → every f xs ≡ true → every f (filter p xs) ≡ true
 every_kept f p [] e = refl
-every_kept {X} f p (x ∷ xs) e = go (f x) refl (p x) refl (every_kept f p xs)
-  where
-    go : (b : Bool) → f x ≡ b → (k : Bool) → p x ≡ k → (every f xs ≡ true → every f (filter p xs) ≡ true) → every f (filter p (x ∷ xs)) ≡ true
-    go false h k g below = absurd (false≢true (sym (ap {B = Bool} (λ b. elim b [ true ↦ every f xs | false ↦ false ]) h) ∙ e))
-    go true h true g below =
-        ap {B = Bool} (λ k. every f (cond k (x ∷ filter p xs) (filter p xs))) g ∙ ap {B = Bool} (λ b. elim b [ true ↦ every f (filter p xs) | false ↦ false ]) h
-        ∙ below (sym (ap {B = Bool} (λ b. elim b [ true ↦ every f xs | false ↦ false ]) h) ∙ e)
-    go true h false g below =
-        ap {B = Bool} (λ k. every f (cond k (x ∷ filter p xs) (filter p xs))) g ∙ below (sym (ap {B = Bool} (λ b. elim b [ true ↦ every f xs | false ↦ false ]) h) ∙ e)
+every_kept f p (x ∷ xs) e = grind (arith, every_kept f p xs, e)
 
 pub every_push : {X : Type 0} (f : X → Bool) (xs : List X) (a : X) → every f xs ≡ true → f a ≡ true → every f (xs ++ (a ∷ [])) ≡ true
-every_push f [] a e t = ap {B = Bool} (λ b. elim b [ true ↦ true | false ↦ false ]) t
-every_push {X} f (x ∷ xs) a e t = go (f x) refl (λ h. every_push f xs a h t)
-  where
-    go : (b : Bool) → f x ≡ b → (every f xs ≡ true → every f (xs ++ (a ∷ [])) ≡ true) → every f ((x ∷ xs) ++ (a ∷ [])) ≡ true
-    go true h below = ap {B = Bool} (λ b. elim b [ true ↦ every f (xs ++ (a ∷ [])) | false ↦ false ]) h ∙ below (sym (ap {B = Bool} (λ b. elim b [ true ↦ every f xs | false ↦ false ]) h) ∙ e)
-    go false h below = absurd (false≢true (sym (ap {B = Bool} (λ b. elim b [ true ↦ every f xs | false ↦ false ]) h) ∙ e))
+every_push f [] a e t = grind (arith, t)
+every_push f (x ∷ xs) a e t = grind (arith, every_push f xs a, e, t)

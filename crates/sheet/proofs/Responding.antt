@@ -1,5 +1,5 @@
 -- A sheet of the code, and the sheet that it stands for, through a call. Assumes nothing.
-use Rattle.std.proofs.Common.{◌≡◌, ℕ, List, Ok, Err, sym, refl, ap, ◌∙◌, subst, arith, Bor}
+use Rattle.std.proofs.Common.{◌≡◌, ℕ, List, Ok, Err, sym, refl, ap, ◌∙◌, subst, Bor}
 use mathlib.Core.Option.{Option, none, some}
 use Rattle.model.specs.Text.{ReadRule}
 use Rattle.model.specs.Reading.{rule_left}
@@ -13,7 +13,7 @@ use Rattle.model.specs.SheetLaws.{Does as Lays, add_blank, add_unlike, add_taken
 use Rattle.model.proofs.Calls.{respond_is, refused_is, does}
 use Rattle.sheet.specs.declared.sheet.Sheet.{Sheet as Kept}
 use Rattle.sheet.specs.declared.page.Page.{Page}
-use Rattle.sheet.specs.Shows.{Does, Opens, Stands, Responds, passing}
+use Rattle.sheet.specs.Shows.{Does, Opens, Stands, Responds}
 
 -- no call changes what the look is at
 look_stays : (s : Sheet) {call : Call} {o : Outcome} → Lays s call o → looked o.sheet ≡ looked s
@@ -74,11 +74,6 @@ add_quiet s v buffer = go (looked s) refl
     go : (o : Option Refusal) → looked s ≡ o → buffer ≡ held buffer (respond s (add v)).answer
     go (some r) l = sym (ap {B = List ℕ} (λ (o : Outcome). held buffer o.answer) (refused_is s (add v) r l))
     go none l = quiet s (does s l (add v)) tt buffer
-
--- the look lets it pass
-pub passed : (o : Option Refusal) (v : Unit {0}) → Ok v ≡ passing o → o ≡ none
-passed none v e = refl
-passed (some r) v e = absurd (let z : ◌≡◌ {A = ℕ} 0 1 = cc in omega arith)
 
 module _ {R : Type 0} where
   -- a sheet that the look refused gives that refusal from every call, and stays

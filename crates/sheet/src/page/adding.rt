@@ -57,6 +57,7 @@ impl Page {
     }
 
     /// Adds the rule behind the others. The rule is used up, also if it is refused.
+    #[tactic(auto, using(crate::proofs::Listed::every_push, crate::proofs::Listed::states_push), unfolding(crate::specs::Added::admission))]
     pub fn add(&mut self, rule: ReadRule) -> Result<(), Refusal>
         ensures { Does self.old (add_call (view rule)) (settled result) self.new }
     {
@@ -67,6 +68,7 @@ impl Page {
     }
 
     /// Takes the rule of the name out, and closes the gap.
+    #[tactic(auto, using(crate::proofs::Listed::every_kept, crate::proofs::Listed::states_kept))]
     pub fn withdraw(&mut self, name: &[u8]) -> Result<(), Refusal>
         ensures { Does self.old (withdraw_call name.now) (settled result) self.new }
     {

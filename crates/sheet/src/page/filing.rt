@@ -16,6 +16,7 @@ use synthesis::table::RuleTable;
 
 impl Page {
     /// The rules on the page as one.
+    #[tactic(auto, using(crate::proofs::Paging::all_alike))]
     fn rules(&self) -> RuleTable
         ensures { Agrees (automaton result.arrows) (together (automaton self.now.table.arrows) (map meaning self.now.added.items)) }
     {

@@ -11,6 +11,7 @@ use synthesis::solving::solve;
 
 impl Page {
     /// Discards the stored controller, and stores one of the least count, in its state 0.
+    #[tactic(auto, using(crate::proofs::Paging::all_alike))]
     pub fn solve(&mut self) -> Result<Solution, Refusal>
         ensures { Does self.old solve_call (solution result) self.new }
     {

@@ -1,6 +1,5 @@
-use Rattle.std.proofs.Common.{◌≡◌, ℕ, ◌-◌, ◌≤◌, List, map, length, get_or, take, vec_items, sym, refl, ap, ◌∙◌, subst, arith}
+use Rattle.std.proofs.Common.{◌≡◌, ℕ, ◌-◌, List, map, length, get_or, take, vec_items, sym, refl, ap, ◌∙◌, subst, arith}
 use mathlib.Core.Option.{some}
-use Rattle.std.specs.List.{AllByRecursion as All}
 use Rattle.model.specs.Automaton.{no_row}
 use Rattle.model.specs.Rules.{together}
 use Rattle.model.specs.Positions.{Found, Solution, found, none_found, too_crowded}
@@ -8,23 +7,12 @@ use Rattle.model.specs.Positions as Positions
 use Rattle.model.specs.Sheet.{rules, Outcome, answers, with_stored, count, row_in}
 use Rattle.ruletext.specs.declared.rule.ReadRule.{ReadRule}
 use Rattle.synthesis.specs.declared.state.State.{State}
-use Rattle.synthesis.specs.Tables.{automaton, Alike}
+use Rattle.synthesis.specs.Tables.{automaton}
 use Rattle.synthesis.specs.Answers.{Stores, row_of}
 use Rattle.sheet.specs.Added.{meaning}
-use Rattle.sheet.proofs.Paging.{outcome, all_alike, rules_agree}
+use Rattle.sheet.proofs.Paging.{outcome, rules_agree}
 use Rattle.sheet.proofs.Keeping.{stores_alike, solved_as}
 use Rattle.sheet.proofs.page.Page.solve.Goals as goal
-
-pub solve-requires : goal.solve-requires
-solve-requires c =
-    let H = automaton c.args.self.now.table.arrows in
-    let v = sym c.as_slice.ensures.value in
-    record {
-      alike = subst (λ (w : List ReadRule). All (Alike H) (map meaning w)) v (all_alike H (vec_items c.args.self.now.added) c.args.self.now.alike);
-      room = subst (λ (w : List ReadRule). (together H (map meaning w)).states ≤ 16) v c.args.self.now.few_states;
-      capacity = (c.args.self.now.some_capacity, c.args.self.now.low_capacity);
-      limit = c.args.self.now.low_limit;
-    }
 
 pub returns : goal.returns
 returns c s shows =

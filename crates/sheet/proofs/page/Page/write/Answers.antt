@@ -2,11 +2,11 @@ use Rattle.std.proofs.Common.{◌≡◌, ◌-◌, List, take, subst}
 use Rattle.ctlfile.specs.Files as Put
 use Rattle.synthesis.specs.declared.state.State.{State}
 use Rattle.synthesis.specs.Tables.{automaton}
-use Rattle.sheet.proofs.Files.{fits_or_not, writes_as}
+use Rattle.sheet.proofs.Files.{writes_as}
 use Rattle.sheet.proofs.page.Page.write.Goals as goal
 
-pub returns : goal.returns
-returns c =
+pub returns-clause-said : goal.returns-clause-said
+returns-clause-said c s shows =
     let p = c.args.self.now in
     let k = c.in-Some.stored in
     let A = automaton c.rules.result.arrows in
@@ -15,7 +15,4 @@ returns c =
     let whole = c.as_slice.ensures.value in
     let said : c.write.result ≡ Put.written (F p.workspace.states.items) buffer = subst (λ v. c.write.result ≡ Put.written (F v) buffer) whole c.write.ensures.said in
     let left : c.write.new.buffer ≡ Put.left (F p.workspace.states.items) buffer = subst (λ v. c.write.new.buffer ≡ Put.left (F v) buffer) whole c.write.ensures.left in
-    record {
-      said = λ s shows. writes_as p s shows A c.rules.ensures k buffer c.write.new.buffer c.write.result c.in-Some.is said left;
-      left = (fits_or_not (F p.workspace.states.items) buffer c.write.new.buffer c.write.result said left).1;
-    }
+    writes_as p s shows A c.rules.ensures k buffer c.write.new.buffer c.write.result c.in-Some.is said left
