@@ -28,21 +28,15 @@ struct States<'a> {
     ghost sized: { length arrows.now ≡ 4096 },
 }
 
-impl Graph for States<'_> {
+impl Graph<8> for States<'_> {
     type Node = u8;
 
     ghost same = { λ g a b. (a == b) };
-
-    ghost degree = { λ g. 8 };
 
     ghost successor = { λ g q p. follower g.arrows.now q p };
 
     fn same(&self, a: &u8, b: &u8) -> bool {
         *a == *b
-    }
-
-    fn degree(&self) -> usize {
-        8
     }
 
     fn successor(&self, node: &u8, i: usize) -> Option<u8> {
@@ -65,7 +59,7 @@ pub fn all_reached(table: &Table, states: u8, start: u8) -> bool
     };
     let mut met = [0; 8];
     let mut waiting = [0; 8];
-    let mut links = [0; 64];
+    let mut links = [[None; 8]; 8];
     match explore(&graph, &start, &mut met, &mut waiting, &mut links) {
         Some(n) => n == states as usize,
         None => false,
