@@ -1,6 +1,7 @@
 -- The place of a node in a list, and in two lists one behind the other.
-use Rattle.std.proofs.Common.{◌≡◌, ℕ, zero, suc, ◌+◌, ◌<◌, ◌≤◌, Bool, true, false, List, [], ◌∷◌, ◌++◌, length, get_or, take, sym, refl, ap, ◌∙◌, zero-le, arith}
-use Rattle.std.proofs.lemmas.List.{take_more}
+use Rattle.std.proofs.Common.{◌≡◌, ℕ, suc, ◌+◌, ◌<◌, ◌≤◌, Bool, true, false, cond, not, List, [], ◌∷◌, ◌++◌, length, nat_lt, MatchOption, Option, subst, sym, refl, ap, inl, inr, zero-le, arith}
+use Rattle.std.proofs.lemmas.Bool.{lt-ltb, le-ltb, cases_lt}
+use Rattle.std.specs.List.{position, position_or_len}
 use Rattle.model.specs.Search.{place}
 
 module _ {X : Type 0} (same : X → X → Bool) where
@@ -37,24 +38,25 @@ module _ {X : Type 0} (same : X → X → Bool) where
   pub place_one : (x y : X) → same y x ≡ true → place same (x ∷ []) y ≡ 0
   place_one x y e = rw (e, place)
 
-  -- a look at one more place, where another node stands
-  pub place_more : (xs : List X) (i : ℕ) (x y : X) → i < length xs → x ≡ get_or xs i x → length (take i xs) ≡ i → place same (take i xs) y ≡ i → same y x ≡ false
-      → place same (take (i + 1) xs) y ≡ i + 1
-  place_more xs i x y l ex t h e =
-      let p = place_behind (take i xs) (x ∷ []) y (omega arith) in
-      let q : place same (x ∷ []) y ≡ 1 = rw (e, place) in
-      ap (λ zs. place same zs y) (take_more xs i x l ∙ ap {B = List X} (λ z. take i xs ++ (z ∷ [])) (sym ex)) ∙ omega arith
-
-  -- and where the node itself stands
-  pub place_here : (xs : List X) (i n : ℕ) (x y : X) → i < n → n ≤ length xs → x ≡ get_or xs i x → place same (take i xs) y ≡ i → same y x ≡ true
-      → place same (take n xs) y ≡ i
-  place_here [] i n x y l m ex h e = absurd (omega arith)
-  place_here (z ∷ zs) i zero x y l m ex h e = absurd (omega arith)
-  place_here (z ∷ zs) zero (suc n) x y l m ex h e = let f : same y z ≡ true = ap (same y) (sym ex) ∙ e in rw (f, place)
-  place_here (z ∷ zs) (suc i) (suc n) x y l m ex h e = go (same y z) h (place_here zs i n x y (omega arith) (omega arith) ex)
+  place_is : (xs : List X) (y : X) → place same xs y ≡ position_or_len (same y) xs
+  place_is [] y = refl
+  place_is (x ∷ xs) y = go (same y x) (place_is xs y)
     where
-      go : (b : Bool) → elim b as (λ v. ℕ) [ true ↦ 0 | false ↦ suc (place same (take i zs) y) ] ≡ suc i
-          → (place same (take i zs) y ≡ i → same y x ≡ true → place same (take n zs) y ≡ i)
-          → elim b as (λ v. ℕ) [ true ↦ 0 | false ↦ suc (place same (take n zs) y) ] ≡ suc i
-      go true h r = absurd (omega arith)
-      go false h r = ap suc (r (omega arith) e)
+      go : (b : Bool) → place same xs y ≡ position_or_len (same y) xs
+          → elim b as (λ v. ℕ) [ true ↦ 0 | false ↦ suc (place same xs y) ] ≡ cond (not b) (1 + position_or_len (same y) xs) 0
+      go true r = refl
+      go false r = omega (arith, r)
+
+  -- the first position at which the node stands is its place
+  position_place : (xs : List X) (y : X) → MatchOption (position (same y) xs) (place same xs y ≡ length xs) (λ k. (k < length xs) × (k ≡ place same xs y))
+  position_place xs y = elim (cases_lt (place same xs y) (length xs)) [
+    | inl h ↦
+        (let e : nat_lt (position_or_len (same y) xs) (length xs) ≡ true = lt-ltb _ _ (omega (arith, h, place_is xs y)) in
+        rw e (omega (arith, h, place_is xs y), sym (place_is xs y)))
+    | inr h ↦
+        (let e : nat_lt (position_or_len (same y) xs) (length xs) ≡ false = le-ltb _ _ (omega (arith, h, place_is xs y)) in
+        rw e (omega (arith, h, place_le xs y)))
+  ]
+
+  pub placed : (xs : List X) (y : X) (o : Option ℕ) → o ≡ position (same y) xs → MatchOption o (place same xs y ≡ length xs) (λ k. (k < length xs) × (k ≡ place same xs y))
+  placed xs y o e = subst (λ o. MatchOption o (place same xs y ≡ length xs) (λ k. (k < length xs) × (k ≡ place same xs y))) (sym e) (position_place xs y)

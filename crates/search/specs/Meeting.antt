@@ -1,5 +1,5 @@
 -- Nodes met one by one, as a loop meets them, and links between them.
-use Rattle.std.specs.Prelude.{◌≡◌, ℕ, ◌+◌, ◌*◌, ◌<◌, ◌≤◌, Bool, cond, List, [], ◌∷◌, ◌++◌, map, length, take, Some, None, fold, Option, nat_lt, slice_index, slice_index_or}
+use Rattle.std.specs.Prelude.{◌≡◌, ℕ, ◌<◌, ◌≤◌, Bool, cond, List, [], ◌∷◌, ◌++◌, map, length, take, Some, None, fold, Option, nat_lt, slice_index_or}
 use Rattle.std.proofs.Math.Option.{Option as MaybeList, none, some}
 use Rattle.std.specs.List.{range_with_len}
 use Rattle.model.specs.Search.{place}
@@ -23,14 +23,10 @@ with_met same met (Some y) = cond (nat_lt (place same met y) (length met)) met (
 abbrev pub with_successors : {X : Type 0} → (X → X → Bool) → ℕ → (X → ℕ → Option X) → List X → X → List X
 with_successors same degree successor met x = fold (with_met same) met (map (successor x) (range_with_len 0 degree))
 
--- what a link holds where there is no successor
-abbrev pub no_link : ℕ
-no_link = 65535
-
 -- the link that a successor gets when these nodes were met before it: a new node gets the next place
-abbrev pub link_to : {X : Type 0} → (X → X → Bool) → List X → Option X → ℕ
-link_to same met None = no_link
-link_to same met (Some y) = place same met y
+abbrev pub link_to : {X : Type 0} → (X → X → Bool) → List X → Option X → Option ℕ
+link_to same met None = None
+link_to same met (Some y) = Some (place same met y)
 
 -- the first slots hold these nodes, so many; or there are more of them than slots
 abbrev pub Held : {X : Type 0} → Option ℕ → List X → List X → Type 0
@@ -43,15 +39,15 @@ Found None slots nodes = nodes ≡ none
 Found (Some n) slots nodes = (0 < n) × (n ≤ length slots) × (nodes ≡ some (take n slots))
 
 -- the link of a successor that is there is its place among the nodes met
-abbrev pub Link : {X : Type 0} → (X → X → Bool) → List X → Option X → ℕ → Type 0
-Link same met None link = link ≡ no_link
-Link same met (Some y) link = (link ≡ place same met y) × (link < length met)
+abbrev pub Link : {X : Type 0} → (X → X → Bool) → List X → Option X → Option ℕ → Type 0
+Link same met None link = link ≡ None
+Link same met (Some y) link = (link ≡ Some (place same met y)) × (place same met y < length met)
 
--- the links of a node's first successors, which lie from a place on
-abbrev pub LinkedFrom : {X : Type 0} → (X → X → Bool) → (X → ℕ → Option X) → List X → List ℕ → X → ℕ → ℕ → Type 0
-LinkedFrom same successor met links x from n = (i : ℕ) → i < n → Link same met (successor x i) (slice_index links (from + i))
+-- the links of a node's first successors
+abbrev pub LinkedFrom : {X : Type 0} → (X → X → Bool) → (X → ℕ → Option X) → List X → List (Option ℕ) → X → ℕ → Type 0
+LinkedFrom same successor met links x n = (i : ℕ) → i < n → Link same met (successor x i) (slice_index_or links i None)
 
 -- the links of the first nodes met: a row for each of them, and in it a link for each number of a successor
-abbrev pub Linked : {X : Type 0} → (X → X → Bool) → ℕ → (X → ℕ → Option X) → List X → List ℕ → ℕ → Type 0
+abbrev pub Linked : {X : Type 0} → (X → X → Bool) → ℕ → (X → ℕ → Option X) → List X → List (List (Option ℕ)) → ℕ → Type 0
 Linked {X} same degree successor met links rows =
-    (k : ℕ) (d : X) → k < rows → LinkedFrom same successor met links (slice_index_or met k d) (k * degree) degree
+    (k : ℕ) (d : X) → k < rows → LinkedFrom same successor met (slice_index_or links k []) (slice_index_or met k d) degree

@@ -2,15 +2,13 @@
 
 ghost use Rattle.std.specs.Prelude.{◌≡◌, ℕ, ◌<◌, Bool, Option as Maybe};
 
-/// A graph whose nodes have their successors by number: the same numbers at every node, and at a number there may be none.
+/// A graph whose nodes have their successors by number: the numbers below `DEGREE` at every node, and at a number there may be none.
 ///
 /// It has no law, so that a graph which borrows its arrows can be one; what a search needs of `same` is asked of its caller.
-pub trait Graph {
+pub trait Graph<const DEGREE: usize> {
     type Node: Copy;
 
     ghost same: { Self → Self.Node → Self.Node → Bool };
-
-    ghost degree: { Self → ℕ };
 
     ghost successor: { Self → Self.Node → ℕ → Maybe Self.Node };
 
@@ -18,12 +16,8 @@ pub trait Graph {
     fn same(&self, a: &Self::Node, b: &Self::Node) -> bool
         ensures { result ≡ same self.now a.now b.now };
 
-    /// How many numbers a successor may have.
-    fn degree(&self) -> usize
-        ensures { result ≡ degree self.now };
-
     /// The successor with a number, if it is there.
     fn successor(&self, node: &Self::Node, i: usize) -> Option<Self::Node>
-        requires { i < degree self.now }
+        requires { i < DEGREE }
         ensures { result ≡ successor self.now node.now i };
 }

@@ -4,15 +4,14 @@ ghost use Rattle.std.specs.Prelude.{◌≡◌, ◌+◌, ◌<◌, ◌≤◌, true
 ghost use Rattle.search.specs.Waiting.{waiting, Fits, Popped};
 
 /// A queue in a slice that is used as a ring: behind its last slot comes its first again.
-///
-/// It is made by a literal with `head` and `len` 0, where the slice is lent: nothing waits then, whatever the slots hold.
 #[derive(Drop)]
 pub struct Queue<'a, T> {
-    pub slots: &'a mut [T],
+    slots: &'a mut [T],
     /// The slot of the first that waits.
-    pub head: usize,
+    head: usize,
     /// How many wait.
-    pub len: usize,
+    len: usize,
+    ghost fits: { Fits slots.now head len },
 }
 
 /// Writes an item behind those that wait.
@@ -31,9 +30,22 @@ fn put<T: Copy>(slots: &mut [T], head: usize, len: usize, item: T)
 }
 
 impl<'a, T: Copy> Queue<'a, T> {
+    /// A queue in which nothing waits, whatever the slots hold.
+    pub fn new(slots: &'a mut [T]) -> Queue<'a, T>
+        ensures empty { result.len ≡ 0 }
+        ensures head { result.head ≡ 0 }
+        ensures slots { result.slots.now ≡ slots.entry.now }
+        ensures lender { result.slots.ghost_name ≡ slots.entry.ghost_name }
+    {
+        Queue {
+            slots,
+            head: 0,
+            len: 0,
+        }
+    }
+
     /// Whether nothing waits.
     pub fn is_empty(&self) -> bool
-        requires { Fits self.now.slots.now self.now.head self.now.len }
         ensures { Decides result (waiting self.now.slots.now self.now.head self.now.len ≡ []) }
     {
         self.len == 0
@@ -41,11 +53,9 @@ impl<'a, T: Copy> Queue<'a, T> {
 
     /// Lets an item wait behind all others. False, if there is no slot for it; nothing changes then.
     pub fn push(&mut self, item: T) -> bool
-        requires { Fits self.old.slots.now self.old.head self.old.len }
         ensures room { result ≡ nat_lt self.old.len (length self.old.slots.now) }
         ensures pushed { result ≡ true → waiting self.new.slots.now self.new.head self.new.len ≡ waiting self.old.slots.now self.old.head self.old.len ++ (item ∷ []) }
         ensures refused { result ≡ false → self.new ≡ self.old }
-        ensures fits { Fits self.new.slots.now self.new.head self.new.len }
         ensures slots { length self.new.slots.now ≡ length self.old.slots.now }
         ensures lender { self.new.slots.ghost_name ≡ self.old.slots.ghost_name }
     {
@@ -62,10 +72,8 @@ impl<'a, T: Copy> Queue<'a, T> {
 
     /// Lets several items wait behind all others, in their order.
     pub fn push_all(&mut self, items: &[T])
-        requires fits { Fits self.old.slots.now self.old.head self.old.len }
-        requires room { self.old.len + length items.now ≤ length self.old.slots.now }
+        requires { self.old.len + length items.now ≤ length self.old.slots.now }
         ensures pushed { waiting self.new.slots.now self.new.head self.new.len ≡ waiting self.old.slots.now self.old.head self.old.len ++ items.now }
-        ensures fits { Fits self.new.slots.now self.new.head self.new.len }
         ensures slots { length self.new.slots.now ≡ length self.old.slots.now }
         ensures lender { self.new.slots.ghost_name ≡ self.old.slots.ghost_name }
     {
@@ -76,9 +84,7 @@ impl<'a, T: Copy> Queue<'a, T> {
 
     /// Takes the first of those that wait.
     pub fn pop(&mut self) -> Option<T>
-        requires { Fits self.old.slots.now self.old.head self.old.len }
         ensures popped { Popped result (waiting self.old.slots.now self.old.head self.old.len) (waiting self.new.slots.now self.new.head self.new.len) }
-        ensures fits { Fits self.new.slots.now self.new.head self.new.len }
         ensures slots { self.new.slots.now ≡ self.old.slots.now }
         ensures lender { self.new.slots.ghost_name ≡ self.old.slots.ghost_name }
     {
@@ -87,11 +93,12 @@ impl<'a, T: Copy> Queue<'a, T> {
         }
         let head = self.head;
         let item = self.slots[head];
-        self.head = if head + 1 < self.slots.len() {
+        let next = if head + 1 < self.slots.len() {
             head + 1
         } else {
             0
         };
+        self.head = next;
         self.len -= 1;
         Some(item)
     }

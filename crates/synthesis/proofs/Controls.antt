@@ -1,9 +1,9 @@
 -- The states found in the table are the model's, and so are the rows. Assumes nothing.
-use Rattle.std.proofs.Common.{◌≡◌, ℕ, zero, suc, ◌+◌, ◌-◌, ◌*◌, ◌<◌, ◌≤◌, Bool, true, false, cond, ◌&&◌, eqb, ltb, List, [], ◌∷◌, map, length, get_or, Some, None, Option, sym, refl, ap, ◌∙◌, subst, inl, inr, zero-le, arith}
-use mathlib.Core.Bool.{false≢true}
+use Rattle.std.proofs.Common.{◌≡◌, ℕ, suc, ◌-◌, ◌<◌, ◌≤◌, Bool, true, false, cond, ◌&&◌, eqb, ltb, List, [], ◌∷◌, map, length, get_or, Some, None, Option, sym, refl, ap, ◌∙◌, subst, inl, inr, arith}
 use mathlib.Core.Option.{Option as MaybeList, some}
+use Rattle.std.specs.Option.{unwrap_or}
 use Rattle.std.specs.List.{range_with_len, AllByRecursion as All}
-use Rattle.std.proofs.lemmas.Bool.{lt-ltb, eq-eqb, eqb-true, cases_Bool}
+use Rattle.std.proofs.lemmas.Bool.{lt-ltb, eq-eqb, eqb-true}
 use Rattle.model.specs.Automaton.{Automaton, Row}
 use Rattle.model.specs.Lists.{In, Distinct}
 use Rattle.model.specs.Search.{place, reached_from}
@@ -13,41 +13,23 @@ use Rattle.synthesis.proofs.Deciding.{same_bool, same_refl, same_sound, member_s
 use Rattle.search.specs.Meeting.{present, successors as neighbours, Link, Linked}
 use Rattle.synthesis.proofs.Carried.{carried, search_carried}
 use Rattle.synthesis.specs.Surveys.{Stepping}
-use Rattle.synthesis.specs.Safety.{link, flag, Holding, stays_under, first_of, lowest_kept}
-use Rattle.synthesis.specs.Control.{led, onward}
+use Rattle.synthesis.specs.Safety.{link, flag, Holding, lowest_kept}
+use Rattle.synthesis.specs.Control.{led, onward, next_states}
 use Rattle.synthesis.proofs.Showing.{present_cut}
 use Rattle.synthesis.proofs.Pruned.{flag_inside}
 use Rattle.synthesis.proofs.Flags.{link_to, holds_holding, choice_is}
-use Rattle.synthesis.proofs.Lowest.{under_holding, holding_under}
+use Rattle.synthesis.proofs.Lowest.{Lowest, into_some, kept}
 use Rattle.synthesis.proofs.Making.{map-map, map_like}
 
-abbrev Told : (ℕ → Bool) → ℕ → ℕ → Option ℕ → Type 0
-Told f a n None = (u : ℕ) → a ≤ u → u < a + n → f u ≡ false
-Told f a n (Some u) = (a ≤ u) × (u < a + n) × (f u ≡ true) × ((v : ℕ) → a ≤ v → v < u → f v ≡ false)
-
-first_told : (f : ℕ → Bool) (a n : ℕ) → Told f a n (first_of f (range_with_len a n))
-first_told f a zero = λ u l m. absurd (omega arith)
-first_told f a (suc n) = go (f a) refl (first_of f (range_with_len (a + 1) n)) (first_told f (a + 1) n)
-  where
-    go : (b : Bool) → f a ≡ b → (o : Option ℕ) → Told f (a + 1) n o → Told f a (suc n) (elim b as (λ v. Option ℕ) [ true ↦ Some a | false ↦ o ])
-    go true e o t = (omega arith, omega arith, e, λ v l m. absurd (omega arith))
-    go false e None t = λ u l m. elim (cases_Bool (f u)) [ inl p ↦ absurd (let ne : a ≡ u → ⊥ = λ q. false≢true (sym e ∙ ap f q ∙ p) in false≢true (sym (t u (omega (arith, ne)) (omega arith)) ∙ p)) | inr p ↦ p ]
-    go false e (Some u) t = (
-      (let k = t.0 in omega (arith, k)),
-      (let k = t.1 in omega (arith, k)),
-      t.2,
-      λ v l m. elim (cases_Bool (f v)) [ inl p ↦ absurd (let ne : a ≡ v → ⊥ = λ q. false≢true (sym e ∙ ap f q ∙ p) in false≢true (sym (t.3 v (omega (arith, ne)) m) ∙ p)) | inr p ↦ p ],
-    )
-
-present_all : {X : Type 0} (f : ℕ → X) (xs : List ℕ) → present (map (λ x. Some (f x)) xs) ≡ map f xs
-present_all f [] = refl
-present_all {X} f (x ∷ xs) = ap {B = List X} (λ l. f x ∷ l) (present_all f xs)
+present_all : {X : Type 0} (o : ℕ → Option X) (f : ℕ → X) (xs : List ℕ) → ((x : ℕ) → In xs x → o x ≡ Some (f x)) → present (map o xs) ≡ map f xs
+present_all o f [] h = refl
+present_all {X} o f (x ∷ xs) h = ap {B = List X} (λ v. present (v ∷ map o xs)) (h x (inl refl)) ∙ ap {B = List X} (λ l. f x ∷ l) (present_all o f xs (λ y i. h y (inr i)))
 
 all_map_in : {X Y : Type 0} (P : Y → Type 0) (f : X → Y) (xs : List X) → ((x : X) → In xs x → P (f x)) → All P (map f xs)
 all_map_in P f [] h = tt
 all_map_in P f (x ∷ xs) h = (h x (inl refl), all_map_in P f xs (λ y i. h y (inr i)))
 
-module _ (A : Automaton) (c : ℕ) (L : List Position) (links : List ℕ) (table : Stepping A c L links) (few : length L ≤ 65535)
+module _ (A : Automaton) (c : ℕ) (L : List Position) (links : List (List (Option ℕ))) (table : Stepping A c L links)
     (low : (u x h : ℕ) → In L (step A u x (get_or L h [])) → fits c (step A u x (get_or L h [])) ≡ true)
     (R : List Position) (within : (Q : Position) → In R Q → In L Q) (flags : List Bool) (long : length flags ≡ length L)
     (is : (h : ℕ) → h < length L → flag flags h ≡ member R (get_or L h []))
@@ -74,29 +56,34 @@ module _ (A : Automaton) (c : ℕ) (L : List Position) (links : List ℕ) (table
     pub is_model : command_at A R (at h) ≡ command
 
   pub pick_at : (h : ℕ) → Good h → Pick h
-  unfolding lowest_kept
-  pick_at h g = go (first_of (stays_under A.situations links flags h) (range_with_len 0 A.commands)) refl (first_told (stays_under A.situations links flags h) 0 A.commands)
+  pick_at h g = go (lowest_kept A.commands A.situations links flags h) refl (kept A.situations links flags h A.commands)
     where
-      go : (o : Option ℕ) → first_of (stays_under A.situations links flags h) (range_with_len 0 A.commands) ≡ o → Told (stays_under A.situations links flags h) 0 A.commands o → Pick h
+      go : (o : Option ℕ) → lowest_kept A.commands A.situations links flags h ≡ o → Lowest A.situations links flags h A.commands o → Pick h
       go None e t =
           let hl = inside h g in
           let s = safe (at h) (member_sound R (at h) (sym (is h hl) ∙ g)) in
-          let k = holds_holding A c L links table few low R within flags long is h s.0 hl s.1 (holds_complete A R (at h) s.0 s.2) in
-          absurd (false≢true (sym (t s.0 zero-le (let l = s.1 in omega (arith, l))) ∙ holding_under A.situations links flags h s.0 k))
+          absurd (t s.0 s.1 (holds_holding A c L links table low R within flags long is h s.0 hl s.1 (holds_complete A R (at h) s.0 s.2)))
       go (Some u) e t =
-          let hl = inside h g in
-          let k = under_holding A.situations links flags h u t.2 in
-          let ku : u < A.commands = let l = t.1 in omega (arith, l) in
-          record {
-            command = u;
-            is_lowest = e;
-            known = ku;
-            holding = k;
-            is_model = choice_is A c L links table few low R within flags long is h u hl ku k (λ v l m. false≢true (sym (t.3 v zero-le l) ∙ holding_under A.situations links flags h v m));
-          }
+          record { command = u; is_lowest = e; known = t.0; holding = t.1; is_model = choice_is A c L links table low R within flags long is h u (inside h g) t.0 t.1 t.2 }
+
+  -- where that command leads
+  to : (h : ℕ) → Good h → ℕ → ℕ
+  to h g x = unwrap_or (link links h (pick_at h g).command x) 0
+
+  -- there is a link there, to a flagged place
+  to_is : (h x : ℕ) (g : Good h) → x < A.situations → (link links h (pick_at h g).command x ≡ Some (to h g x)) × Good (to h g x)
+  unfolding to
+  to_is h x g hx =
+      let p = pick_at h g in
+      let q = into_some (flag flags) (link links h p.command x) (p.holding x hx) in
+      let e : q.0 ≡ unwrap_or (link links h p.command x) 0 = sym (ap {B = ℕ} (λ o. unwrap_or o 0) q.1) in
+      (q.1 ∙ ap (λ l. Some l) e, subst (λ l. flag flags l ≡ true) e q.2)
+
+  below : (x : ℕ) → In (range_with_len 0 A.situations) x → x < A.situations
+  below x i = let b = counting_in 0 A.situations x i in omega (arith, b.1)
 
   -- the places that the lowest-kept command leads to
-  around_at : (h : ℕ) (g : Good h) → neighbours 8 go_on h ≡ map (link links h (pick_at h g).command) (range_with_len 0 A.situations)
+  around_at : (h : ℕ) (g : Good h) → neighbours 8 go_on h ≡ map (to h g) (range_with_len 0 A.situations)
   around_at h g =
       let p = pick_at h g in
       let u = p.command in
@@ -105,15 +92,14 @@ module _ (A : Automaton) (c : ℕ) (L : List Position) (links : List ℕ) (table
       let less : S - 0 ≡ S = omega arith in
       ap {B = List ℕ} (λ b. present (map (λ x. cond (b && ltb x S) (led (λ u. link links h u x) (lowest_kept A.commands S links flags h)) None) (range_with_len 0 8))) hn
       ∙ ap {B = List ℕ} (λ o. present (map (λ x. cond (ltb x S) (led (λ u. link links h u x) o) None) (range_with_len 0 8))) p.is_lowest
-      ∙ present_cut (λ x. Some (link links h u x)) S 0 8 (omega arith)
-      ∙ ap {B = List ℕ} (λ k. present (map (λ x. Some (link links h u x)) (range_with_len 0 k))) less
-      ∙ present_all (link links h u) (range_with_len 0 S)
+      ∙ present_cut (λ x. link links h u x) S 0 8 (omega arith)
+      ∙ ap {B = List ℕ} (λ k. present (map (λ x. link links h u x) (range_with_len 0 k))) less
+      ∙ present_all (λ x. link links h u x) (to h g) (range_with_len 0 S) (λ x i. (to_is h x g (below x i)).0)
 
-  step_at : (h x : ℕ) (g : Good h) → x < A.situations → at (link links h (pick_at h g).command x) ≡ step A (pick_at h g).command x (at h)
+  step_at : (h x : ℕ) (g : Good h) → x < A.situations → at (to h g x) ≡ step A (pick_at h g).command x (at h)
   step_at h x g hx =
       let p = pick_at h g in
-      let l = link links h p.command x in
-      link_to c L (step A p.command x (at h)) l (inside l (p.holding x hx)) few (table h p.command x (inside h g) p.known hx)
+      link_to c L (step A p.command x (at h)) (link links h p.command x) (to h g x) (table h p.command x (inside h g) p.known hx) (to_is h x g hx).0
 
   pub tests : (a b : ℕ) → Good a → Good b → same (at a) (at b) ≡ eqb a b
   tests a b ga gb =
@@ -121,21 +107,18 @@ module _ (A : Automaton) (c : ℕ) (L : List Position) (links : List ℕ) (table
       (λ e. eq-eqb a b (one_place L a b [] apart (inside a ga) (inside b gb) (same_sound (at a) (at b) e)))
       (λ e. ap {B = Bool} (λ v. same (at a) (at v)) (sym (eqb-true a b e)) ∙ same_refl (at a))
 
-  below : (x : ℕ) → In (range_with_len 0 A.situations) x → x < A.situations
-  below x i = let b = counting_in 0 A.situations x i in omega (arith, b.1)
-
   pub leads : (h : ℕ) → Good h → steps A (at h) (command_at A R (at h)) ≡ map at (neighbours 8 go_on h)
   unfolding steps
   leads h g =
       let p = pick_at h g in
       let u = p.command in
       ap {B = List Position} (λ v. map (λ x. step A v x (at h)) (range_with_len 0 A.situations)) p.is_model
-      ∙ map_like (λ x. step A u x (at h)) (λ x. at (link links h u x)) (range_with_len 0 A.situations) (λ x i. sym (step_at h x g (below x i)))
-      ∙ sym (map-map (link links h u) at (range_with_len 0 A.situations))
+      ∙ map_like (λ x. step A u x (at h)) (λ x. at (to h g x)) (range_with_len 0 A.situations) (λ x i. sym (step_at h x g (below x i)))
+      ∙ sym (map-map (to h g) at (range_with_len 0 A.situations))
       ∙ ap {B = List Position} (map at) (sym (around_at h g))
 
   pub stays : (h : ℕ) → Good h → All Good (neighbours 8 go_on h)
-  stays h g = subst (λ l. All Good l) (sym (around_at h g)) (all_map_in Good (link links h (pick_at h g).command) (range_with_len 0 A.situations) (λ x i. (pick_at h g).holding x (below x i)))
+  stays h g = subst (λ l. All Good l) (sym (around_at h g)) (all_map_in Good (to h g) (range_with_len 0 A.situations) (λ x i. (to_is h x g (below x i)).1))
 
   -- the states are the model's
   pub states_are : (T : List ℕ) (start : Position) → Good 0 → at 0 ≡ start → reached_from eqb (neighbours 8 go_on) (length R) 0 ≡ some T
@@ -153,8 +136,8 @@ module _ (A : Automaton) (c : ℕ) (L : List Position) (links : List ℕ) (table
       ∙ ap {B = ℕ} (λ n. elim (eqb y x) as (λ v. ℕ) [ true ↦ 0 | false ↦ suc n ]) (place_carried T y g h.1)
 
   -- the row of the state at s
-  pub row_is : (T nexts : List ℕ) (s : ℕ) → All Good T → s < length T → Linked eqb 8 go_on T nexts (length T) → (g : Good (get_or T s 0))
-      → row_at A R (map at T) (at (get_or T s 0)) ≡ record { command = (pick_at (get_or T s 0) g).command; nexts = map (λ x. get_or nexts (s * 8 + x) 0) (range_with_len 0 A.situations) }
+  pub row_is : (T : List ℕ) (nexts : List (List (Option ℕ))) (s : ℕ) → All Good T → s < length T → Linked eqb 8 go_on T nexts (length T) → (g : Good (get_or T s 0))
+      → row_at A R (map at T) (at (get_or T s 0)) ≡ record { command = (pick_at (get_or T s 0) g).command; nexts = next_states nexts s A.situations }
   unfolding row_at steps
   row_is T nexts s good lt linked g =
       let h = get_or T s 0 in
@@ -162,17 +145,19 @@ module _ (A : Automaton) (c : ℕ) (L : List Position) (links : List ℕ) (table
       let u = p.command in
       let S = A.situations in
       let xs = range_with_len 0 S in
-      let each : (x : ℕ) → In xs x → place same (map at T) (step A u x (at h)) ≡ get_or nexts (s * 8 + x) 0 =
+      let next = λ (x : ℕ). unwrap_or (get_or (get_or nexts s []) x None) 0 in
+      let each : (x : ℕ) → In xs x → place same (map at T) (step A u x (at h)) ≡ next x =
       λ x i.
       let hx = below x i in
       let x8 : x < 8 = omega arith in
-      let l = link links h u x in
+      let l = to h g x in
       let k = linked s 0 lt x x8 in
       let o : go_on h x ≡ Some l =
       ap {B = Option ℕ} (λ b. cond (b && ltb x S) (led (λ u. link links h u x) (lowest_kept A.commands S links flags h)) None) (lt-ltb h (length flags) (flag_inside flags h g))
       ∙ ap {B = Option ℕ} (λ b. cond b (led (λ u. link links h u x) (lowest_kept A.commands S links flags h)) None) (lt-ltb x S hx)
-      ∙ ap {B = Option ℕ} (led (λ u. link links h u x)) p.is_lowest in
-      let m = subst (λ v. Link eqb T v (get_or nexts (s * 8 + x) 0)) o k in
-      ap {B = ℕ} (place same (map at T)) (sym (step_at h x g hx)) ∙ place_carried T l (p.holding x hx) good ∙ sym m.0 in
+      ∙ ap {B = Option ℕ} (led (λ u. link links h u x)) p.is_lowest
+      ∙ (to_is h x g hx).0 in
+      let m = subst (λ v. Link eqb T v (get_or (get_or nexts s []) x None)) o k in
+      ap {B = ℕ} (place same (map at T)) (sym (step_at h x g hx)) ∙ place_carried T l (to_is h x g hx).1 good ∙ sym (ap {B = ℕ} (λ o. unwrap_or o 0) m.0) in
       ap {B = Row} (λ v. record { command = v; nexts = map (place same (map at T)) (map (λ x. step A v x (at h)) xs) }) p.is_model
-      ∙ ap {B = Row} (λ l. record { command = u; nexts = l }) (map-map (λ x. step A u x (at h)) (place same (map at T)) xs ∙ map_like (λ x. place same (map at T) (step A u x (at h))) (λ x. get_or nexts (s * 8 + x) 0) xs each)
+      ∙ ap {B = Row} (λ l. record { command = u; nexts = l }) (map-map (λ x. step A u x (at h)) (place same (map at T)) xs ∙ map_like (λ x. place same (map at T) (step A u x (at h))) next xs each)

@@ -1,5 +1,5 @@
 -- The flags that pruning leaves are the model's safe part. Assumes nothing.
-use Rattle.std.proofs.Common.{◌≡◌, ℕ, zero, suc, ◌+◌, ◌<◌, ◌≤◌, Bool, true, false, ◌&&◌, ltb, List, [], ◌++◌, length, get_or, take, Some, sym, refl, ap, ◌∙◌, subst, inl, inr, true≢false, zero-le, arith}
+use Rattle.std.proofs.Common.{◌≡◌, ℕ, zero, suc, ◌+◌, ◌<◌, ◌≤◌, Bool, true, false, ◌&&◌, ltb, List, [], ◌++◌, length, get_or, take, Some, None, Option, sym, refl, ap, ◌∙◌, subst, inl, inr, true≢false, zero-le, arith}
 use mathlib.Core.Bool.{false≢true}
 use mathlib.Core.Option.{some}
 use Rattle.std.proofs.lemmas.List.{length-map, length-take-le, get_or_append_left}
@@ -15,20 +15,18 @@ use Rattle.model.proofs.Reaching.{reach_exact, reach_fits, pruned_keeps, part_in
 use Rattle.synthesis.proofs.Deciding.{same_bool, fits_complete, member_sound, member_complete, holds_sound, holds_complete}
 use Rattle.synthesis.specs.Tables.{view}
 use Rattle.synthesis.specs.Surveys.{shown, Leads, Stepping, Reached}
-use Rattle.synthesis.specs.Safety.{link, flag, Holding, Closed, Safest}
+use Rattle.synthesis.specs.Safety.{link, flag, into, Holding, Closed, Safest}
+use Rattle.synthesis.proofs.Lowest.{into_some}
 use Rattle.synthesis.proofs.Pruned.{flag_inside}
 
 -- a step that is in the list has a link to it
-pub link_of : (c : ℕ) (L : List Position) (Q : Position) (l : ℕ) → fits c Q ≡ true → Leads c L Q l → (l < length L) × (get_or L l [] ≡ Q)
-link_of c L Q l e h = subst (λ b. elim b as (λ v. Type 0) [ true ↦ (l < length L) × (get_or L l [] ≡ Q) | false ↦ l ≡ 65535 ]) e h
+pub link_of : (c : ℕ) (L : List Position) (Q : Position) (o : Option ℕ) → fits c Q ≡ true → Leads c L Q o → (l : ℕ) × (o ≡ Some l) × (l < length L) × (get_or L l [] ≡ Q)
+link_of c L Q None e h = absurd (true≢false (sym e ∙ h))
+link_of c L Q (Some l) e h = (l, refl, h.1, h.2)
 
--- a link into the list leads to the step
-pub link_to : (c : ℕ) (L : List Position) (Q : Position) (l : ℕ) → l < length L → length L ≤ 65535 → Leads c L Q l → get_or L l [] ≡ Q
-link_to c L Q l lt le h = go (fits c Q) h
-  where
-    go : (b : Bool) → elim b as (λ v. Type 0) [ true ↦ (l < length L) × (get_or L l [] ≡ Q) | false ↦ l ≡ 65535 ] → get_or L l [] ≡ Q
-    go true k = k.1
-    go false k = absurd (omega (arith, k))
+-- a link leads to the step
+pub link_to : (c : ℕ) (L : List Position) (Q : Position) (o : Option ℕ) (l : ℕ) → Leads c L Q o → o ≡ Some l → get_or L l [] ≡ Q
+link_to c L Q o l h e = (subst (λ v. Leads c L Q v) e h).2
 
 -- Reach(c) is not over c
 pub listed_fits : (A : Automaton) (c room : ℕ) (L : List Position) → reach A c room ≡ some L → (Q : Position) → In L Q → length Q ≡ A.states → fits c Q ≡ true
@@ -36,7 +34,7 @@ listed_fits A c room L e Q i w =
     let r = (((reach_exact A c room).0 L e).2 Q).0 i in
     fits_complete c Q (λ q h. reach_fits A c {P = Q} r q (subst (λ n. q < n) w h))
 
-module _ (A : Automaton) (c : ℕ) (L : List Position) (links : List ℕ) (table : Stepping A c L links) (few : length L ≤ 65535)
+module _ (A : Automaton) (c : ℕ) (L : List Position) (links : List (List (Option ℕ))) (table : Stepping A c L links)
     (low : (u x h : ℕ) → In L (step A u x (get_or L h [])) → fits c (step A u x (get_or L h [])) ≡ true) where
   -- into a set R within the list, by the table and by the model
   module _ (R : List Position) (within : (Q : Position) → In R Q → In L Q) (flags : List Bool) (long : length flags ≡ length L)
@@ -45,19 +43,17 @@ module _ (A : Automaton) (c : ℕ) (L : List Position) (links : List ℕ) (table
     holding_holds h u hl hu k =
         holds_complete A R (get_or L h []) u
         (λ x hx.
-        let l = link links h u x in
-        let f = k x hx in
-        let lt : l < length L = let i = flag_inside flags l f in omega (arith, i, long) in
-        let q = link_to c L (step A u x (get_or L h [])) l lt few (table h u x hl hu hx) in
-        subst (λ v. In R v) q (member_sound R (get_or L l []) (sym (is l lt) ∙ f)))
+        let p = into_some (flag flags) (link links h u x) (k x hx) in
+        let lt : p.0 < length L = let i = flag_inside flags p.0 p.2 in omega (arith, i, long) in
+        let q = link_to c L (step A u x (get_or L h [])) (link links h u x) p.0 (table h u x hl hu hx) p.1 in
+        subst (λ v. In R v) q (member_sound R (get_or L p.0 []) (sym (is p.0 lt) ∙ p.2)))
 
     pub holds_holding : (h u : ℕ) → h < length L → u < A.commands → holds A R (get_or L h []) u ≡ true → Holding A.situations links (flag flags) h u
     holds_holding h u hl hu k x hx =
         let i = holds_sound A R (get_or L h []) u k x hx in
         let Q = step A u x (get_or L h []) in
-        let l = link links h u x in
-        let q = link_of c L Q l (low u x h (within Q i)) (table h u x hl hu hx) in
-        is l q.0 ∙ ap {B = Bool} (member R) q.1 ∙ member_complete R Q i
+        let q = link_of c L Q (link links h u x) (low u x h (within Q i)) (table h u x hl hu hx) in
+        ap (into (flag flags)) q.1 ∙ is q.0 q.2 ∙ ap {B = Bool} (member R) q.3 ∙ member_complete R Q i
 
     lowest_is : (f : ℕ → Bool) (a n u : ℕ) → a ≤ u → u < a + n → f u ≡ true → ((v : ℕ) → a ≤ v → v < u → f v ≡ false) → lowest f (range_with_len a n) ≡ u
     lowest_is f a zero u h k t r = absurd (omega arith)
@@ -103,9 +99,8 @@ module _ (A : Automaton) (c : ℕ) (L : List Position) (links : List ℕ) (table
         b.0,
         b.1,
         (λ x hx.
-            let l = link links s.0 b.0 x in
-            let lt : l < length L = let i = flag_inside flags l (b.2 x hx) in omega (arith, i, long) in
-            (l, b.2 x hx, link_to c L (step A b.0 x (get_or L s.0 [])) l lt few (table s.0 b.0 x hl b.1 hx) ∙ ap {B = Position} (step A b.0 x) s.2)),
+            let p = into_some (flag flags) (link links s.0 b.0 x) (b.2 x hx) in
+            (p.0, p.2, link_to c L (step A b.0 x (get_or L s.0 [])) (link links s.0 b.0 x) p.0 (table s.0 b.0 x hl b.1 hx) p.1 ∙ ap {B = Position} (step A b.0 x) s.2)),
       ))
       (length L) L
       (λ Q s. subst (λ v. In L v) s.2 (in_getD L s.0 [] (let i = flag_inside flags s.0 s.1 in omega (arith, i, long))))
@@ -125,10 +120,10 @@ module _ (A : Automaton) (c : ℕ) (L : List Position) (links : List ℕ) (table
           k.1,
           (λ x hx.
               let Q = step A k.0 x (get_or L h []) in
-              let l = link links h k.0 x in
               let j = k.2 x hx in
-              let q = link_of c L Q l (low k.0 x h (safe_within Q j)) (table h k.0 x hl k.1 hx) in
-              and_from (ltb l (length L)) (member R (get_or L l [])) (lt-ltb l (length L) q.0) (ap {B = Bool} (member R) q.1 ∙ member_complete R Q j)),
+              let q = link_of c L Q (link links h k.0 x) (low k.0 x h (safe_within Q j)) (table h k.0 x hl k.1 hx) in
+              ap (into safe_at) q.1
+              ∙ and_from (ltb q.0 (length L)) (member R (get_or L q.0 [])) (lt-ltb q.0 (length L) q.2) (ap {B = Bool} (member R) q.3 ∙ member_complete R Q j)),
         ),
       )
 
@@ -140,11 +135,11 @@ module _ (A : Automaton) (c : ℕ) (L : List Position) (links : List ℕ) (table
       (λ m. s.widest safe_at (safe_closed (length flags) long) h (and_from (ltb h (length L)) (member (safe_part A L) (get_or L h [])) (lt-ltb h (length L) hl) m))
 
 -- reach, then prune
-pub survey_flags : (A : Automaton) (c room n : ℕ) (slots : List Stored) (links : List ℕ) (flags more : List Bool) → room ≤ 65535 → n ≤ length slots
+pub survey_flags : (A : Automaton) (c room n : ℕ) (slots : List Stored) (links : List (List (Option ℕ))) (flags more : List Bool) → n ≤ length slots
     → Reached A c room (Some n) slots links → length flags ≡ n → Safest A.commands A.situations links flags
     → (h : ℕ) → h < n → flag (flags ++ more) h ≡ member (safe_part A (shown A n slots)) (get_or (shown A n slots) h [])
-survey_flags A c room n slots links flags more hr hn r long s h lt =
+survey_flags A c room n slots links flags more hn r long s h lt =
     let L = shown A n slots in
     let e : length L ≡ n = length-map (take n slots) (view A.states) ∙ length-take-le n slots hn in
     get_or_append_left flags more false h (omega (arith, long))
-    ∙ flags_safe A c L links r.2 (let a = r.0 in omega (arith, e, a)) (λ u x k i. listed_fits A c room L r.1 (step A u x (get_or L k [])) i (step_length A u x (get_or L k []))) flags (omega (arith, e, long)) s h (omega (arith, e))
+    ∙ flags_safe A c L links r.2 (λ u x k i. listed_fits A c room L r.1 (step A u x (get_or L k [])) i (step_length A u x (get_or L k []))) flags (omega (arith, e, long)) s h (omega (arith, e))

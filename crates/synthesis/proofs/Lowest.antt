@@ -1,44 +1,64 @@
--- The lowest command that holds is what `lowest_kept` computes. Assumes nothing.
-use Rattle.std.proofs.Common.{◌≡◌, ℕ, zero, suc, ◌+◌, ◌<◌, ◌≤◌, Bool, true, false, List, Some, None, Option, sym, refl, ap, ◌∙◌, inl, inr, true≢false, zero-le, arith, MatchOption}
+-- The lowest command that is kept. Assumes nothing.
+use Rattle.std.proofs.Common.{◌≡◌, ℕ, zero, suc, ◌+◌, ◌<◌, ◌≤◌, Bool, true, false, cond, List, Some, None, Option, sym, refl, ap, ◌∙◌, subst, inl, inr, zero-le, arith, MatchOption}
 use mathlib.Core.Bool.{false≢true}
-use Rattle.std.specs.List.{range_with_len}
-use Rattle.std.proofs.lemmas.Bool.{cases_Bool}
-use Rattle.model.proofs.Lists.{in_counting, counting_in}
-use Rattle.synthesis.specs.Safety.{link, flag, Holding, stays_under, first_of, lowest_kept}
-use Rattle.synthesis.proofs.Deciding.{every_sound, every_complete}
+use Rattle.std.specs.List.{find, list_all, range_with_len}
+use Rattle.std.proofs.lemmas.Bool.{and_parts, and_from, cases_Bool, cases_eq}
+use Rattle.synthesis.specs.Safety.{link, flag, into, Holding, stays_under, lowest_kept}
 
-first_none : (f : ℕ → Bool) (a n : ℕ) → ((u : ℕ) → u < a + n → f u ≡ false) → first_of f (range_with_len a n) ≡ None
-first_none f a zero h = refl
-first_none f a (suc n) h =
-    ap {B = Option ℕ} (λ b. elim b as (λ v. Option ℕ) [ true ↦ Some a | false ↦ first_of f (range_with_len (a + 1) n) ]) (h a (omega arith)) ∙ first_none f (a + 1) n (λ u l. h u (omega arith))
+-- a link into a set leads to a place of it
+pub into_some : (t : ℕ → Bool) (o : Option ℕ) → into t o ≡ true → (l : ℕ) × (o ≡ Some l) × (t l ≡ true)
+into_some t None e = absurd (false≢true e)
+into_some t (Some l) e = (l, refl, e)
 
-first_some : (f : ℕ → Bool) (a n u : ℕ) → a ≤ u → u < a + n → f u ≡ true → ((v : ℕ) → v < u → f v ≡ false) → first_of f (range_with_len a n) ≡ Some u
-first_some f a zero u h k t r = absurd (omega arith)
-first_some f a (suc n) u h k t r = go (f a) refl (first_some f (a + 1) n u)
+all_sound : (f : ℕ → Bool) (a n : ℕ) → list_all f (range_with_len a n) ≡ true → (x : ℕ) → a ≤ x → x < a + n → f x ≡ true
+all_sound f a zero e x l m = absurd (omega arith)
+all_sound f a (suc n) e x l m =
+    let p = and_parts (f a) (list_all f (range_with_len (a + 1) n)) e in
+    elim (cases_eq x a) [ inl q ↦ ap f q ∙ p.0 | inr ne ↦ all_sound f (a + 1) n p.1 x (omega (arith, ne)) (omega arith) ]
+
+all_complete : (f : ℕ → Bool) (a n : ℕ) → ((x : ℕ) → a ≤ x → x < a + n → f x ≡ true) → list_all f (range_with_len a n) ≡ true
+all_complete f a zero h = refl
+all_complete f a (suc n) h =
+    and_from (f a) (list_all f (range_with_len (a + 1) n)) (h a (omega arith) (omega arith)) (all_complete f (a + 1) n (λ x l m. h x (omega arith) (omega arith)))
+
+-- the first number that passes, or none does
+abbrev Told : (ℕ → Bool) → ℕ → ℕ → Option ℕ → Type 0
+Told f a n None = (u : ℕ) → a ≤ u → u < a + n → f u ≡ false
+Told f a n (Some u) = (a ≤ u) × (u < a + n) × (f u ≡ true) × ((v : ℕ) → a ≤ v → v < u → f v ≡ false)
+
+first_told : (f : ℕ → Bool) (a n : ℕ) → Told f a n (find f (range_with_len a n))
+first_told f a zero = λ u l m. absurd (omega arith)
+first_told f a (suc n) = go (f a) refl (find f (range_with_len (a + 1) n)) (first_told f (a + 1) n)
   where
-    go : (b : Bool) → f a ≡ b
-        → (a + 1 ≤ u → u < a + 1 + n → f u ≡ true → ((v : ℕ) → v < u → f v ≡ false) → first_of f (range_with_len (a + 1) n) ≡ Some u)
-        → elim b as (λ v. Option ℕ) [ true ↦ Some a | false ↦ first_of f (range_with_len (a + 1) n) ] ≡ Some u
-    go true e i = let p : a ≡ u = omega (arith, λ (q : a < u). true≢false (sym e ∙ r a q)) in ap (λ v. Some v) p
-    go false e i = let ne : a ≡ u → ⊥ = λ p. false≢true (sym e ∙ ap f p ∙ t) in i (omega (arith, ne)) (omega arith) t r
+    go : (b : Bool) → f a ≡ b → (o : Option ℕ) → Told f (a + 1) n o → Told f a (suc n) (cond b (Some a) o)
+    go true e o t = (omega arith, omega arith, e, λ v l m. absurd (omega arith))
+    go false e None t = λ u l m. elim (cases_Bool (f u)) [ inl p ↦ absurd (let ne : a ≡ u → ⊥ = λ q. false≢true (sym e ∙ ap f q ∙ p) in false≢true (sym (t u (omega (arith, ne)) (omega arith)) ∙ p)) | inr p ↦ p ]
+    go false e (Some u) t = (
+      (let k = t.0 in omega (arith, k)),
+      (let k = t.1 in omega (arith, k)),
+      t.2,
+      λ v l m. elim (cases_Bool (f v)) [ inl p ↦ absurd (let ne : a ≡ v → ⊥ = λ q. false≢true (sym e ∙ ap f q ∙ p) in false≢true (sym (t.3 v (omega (arith, ne)) m) ∙ p)) | inr p ↦ p ],
+    )
 
-module _ (S : ℕ) (links : List ℕ) (flags : List Bool) (h : ℕ) where
-  pub under_holding : (u : ℕ) → stays_under S links flags h u ≡ true → Holding S links (flag flags) h u
-  under_holding u e x hx = every_sound (λ x. flag flags (link links h u x)) (range_with_len 0 S) e x (in_counting 0 S x zero-le (omega arith))
+module _ (S : ℕ) (links : List (List (Option ℕ))) (flags : List Bool) (h : ℕ) where
+  under_holding : (u : ℕ) → stays_under S links flags h u ≡ true → Holding S links (flag flags) h u
+  under_holding u e x hx = all_sound (λ x. into (flag flags) (link links h u x)) 0 S e x zero-le (omega arith)
 
-  pub holding_under : (u : ℕ) → Holding S links (flag flags) h u → stays_under S links flags h u ≡ true
-  holding_under u k = every_complete (λ x. flag flags (link links h u x)) (range_with_len 0 S) (λ x i. k x (let b = counting_in 0 S x i in omega (arith, b.1)))
-
-  under_not : (u : ℕ) → (Holding S links (flag flags) h u → ⊥) → stays_under S links flags h u ≡ false
-  under_not u k = elim (cases_Bool (stays_under S links flags h u)) [ inl e ↦ absurd (k (under_holding u e)) | inr e ↦ e ]
+  holding_under : (u : ℕ) → Holding S links (flag flags) h u → stays_under S links flags h u ≡ true
+  holding_under u k = all_complete (λ x. into (flag flags) (link links h u x)) 0 S (λ x l m. k x (omega arith))
 
   -- no command holds, or this is the lowest
   abbrev pub Lowest : ℕ → Option ℕ → Type 0
   Lowest C r =
       MatchOption r ((u : ℕ) → u < C → Holding S links (flag flags) h u → ⊥) (λ u. (u < C) × Holding S links (flag flags) h u × ((v : ℕ) → v < u → Holding S links (flag flags) h v → ⊥))
 
-  pub lowest_is : (C : ℕ) (r : Option ℕ) → Lowest C r → r ≡ lowest_kept C S links flags h
+  pub kept : (C : ℕ) → Lowest C (lowest_kept C S links flags h)
   unfolding lowest_kept
-  lowest_is C None k = sym (first_none (stays_under S links flags h) 0 C (λ u l. under_not u (k u (omega arith))))
-  lowest_is C (Some u) k =
-      sym (first_some (stays_under S links flags h) 0 C u zero-le (let a = k.0 in omega (arith, a)) (holding_under u k.1) (λ v l. under_not v (k.2 v l)))
+  kept C = go (find (stays_under S links flags h) (range_with_len 0 C)) (first_told (stays_under S links flags h) 0 C)
+    where
+      go : (o : Option ℕ) → Told (stays_under S links flags h) 0 C o → Lowest C o
+      go None t = λ u l k. false≢true (sym (t u zero-le (omega arith)) ∙ holding_under u k)
+      go (Some u) t = (let k = t.1 in omega (arith, k), under_holding u t.2, λ v l k. false≢true (sym (t.3 v zero-le l) ∙ holding_under v k))
+
+  pub kept_below : (C u : ℕ) → Some u ≡ lowest_kept C S links flags h → u < C
+  kept_below C u e = (subst (λ o. Lowest C o) (sym e) (kept C)).0

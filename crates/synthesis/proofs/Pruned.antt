@@ -1,22 +1,22 @@
 -- One round of pruning. Assumes nothing.
-use Rattle.std.proofs.Common.{◌≡◌, ℕ, zero, suc, ◌+◌, ◌<◌, Bool, true, false, cond, List, [], ◌∷◌, length, set, sym, refl, ap, ◌∙◌, subst, inl, inr, true≢false, arith, length-set, get_or-set_other, get_or-set_same}
+use Rattle.std.proofs.Common.{◌≡◌, ℕ, zero, suc, ◌+◌, ◌<◌, Bool, true, false, cond, List, [], ◌∷◌, length, set, Some, None, Option, sym, refl, ap, ◌∙◌, subst, inl, inr, true≢false, arith, length-set, get_or-set_other, get_or-set_same}
 use mathlib.Core.Bool.{false≢true}
 use Rattle.std.proofs.lemmas.Bool.{cases_eq, cases_Bool}
-use Rattle.synthesis.specs.Safety.{link, flag, Keeping, Closed, Widest, trues}
+use Rattle.synthesis.specs.Safety.{link, flag, into, Keeping, Closed, Widest, trues}
 
 -- the first n places are looked at
-pub record Pruning (C S : ℕ) (links : List ℕ) (before now : List Bool) (pruned : Bool) (n : ℕ) : Type 0 where
+pub record Pruning (C S : ℕ) (links : List (List (Option ℕ))) (before now : List Bool) (pruned : Bool) (n : ℕ) : Type 0 where
   pub widest : Widest C S links before → Widest C S links now
   pub long : length now ≡ length before
   pub closed : pruned ≡ false → (now ≡ before) × ((h : ℕ) → h < n → flag now h ≡ true → Keeping C S links (flag now) h)
   pub fewer : pruned ≡ true → trues now < trues before
 
-pub prune_none : (C S : ℕ) (links : List ℕ) (before : List Bool) → Pruning C S links before before false 0
+pub prune_none : (C S : ℕ) (links : List (List (Option ℕ))) (before : List Bool) → Pruning C S links before before false 0
 prune_none C S links before =
     record { widest = λ w. w; long = refl; closed = λ _. (refl, λ h l. absurd (omega (arith, l))); fewer = λ e. absurd (false≢true e) }
 
 -- the one at n stays
-pub prune_stays : (C S : ℕ) (links : List ℕ) (before now : List Bool) (pruned : Bool) (n : ℕ) → (flag now n ≡ true → Keeping C S links (flag now) n)
+pub prune_stays : (C S : ℕ) (links : List (List (Option ℕ))) (before now : List Bool) (pruned : Bool) (n : ℕ) → (flag now n ≡ true → Keeping C S links (flag now) n)
     → Pruning C S links before now pruned n → Pruning C S links before now pruned (n + 1)
 prune_stays C S links before now pruned n k r =
     record {
@@ -31,16 +31,21 @@ trues_less [] n e = absurd (false≢true e)
 trues_less (b ∷ bs) zero e = subst (λ v. 0 + trues bs < cond v 1 0 + trues bs) (sym e) (omega arith)
 trues_less (b ∷ bs) (suc n) e = let h = trues_less bs n e in omega arith
 
+-- a link into a set leads into a larger one
+into_more : (s t : ℕ → Bool) → ((l : ℕ) → s l ≡ true → t l ≡ true) → (o : Option ℕ) → into s o ≡ true → into t o ≡ true
+into_more s t f None e = e
+into_more s t f (Some l) e = f l e
+
 -- what no command keeps is in no safe set
-widest_pruned : (C S : ℕ) (links : List ℕ) (now : List Bool) (n : ℕ) → (Keeping C S links (flag now) n → ⊥) → Widest C S links now → Widest C S links (set now n false)
+widest_pruned : (C S : ℕ) (links : List (List (Option ℕ))) (now : List Bool) (n : ℕ) → (Keeping C S links (flag now) n → ⊥) → Widest C S links now → Widest C S links (set now n false)
 widest_pruned C S links now n nay w t closed h th =
     let c : Closed C S (length now) links t = subst (λ k. Closed C S k links t) (length-set now n false) closed in
     elim (cases_eq h n) [
-      | inl p ↦ absurd (let k = (c h th).1 in nay (subst (λ v. Keeping C S links (flag now) v) p (k.0, k.1, λ x l. w t c (link links h k.0 x) (k.2 x l))))
+      | inl p ↦ absurd (let k = (c h th).1 in nay (subst (λ v. Keeping C S links (flag now) v) p (k.0, k.1, λ x l. into_more t (flag now) (w t c) (link links h k.0 x) (k.2 x l))))
       | inr q ↦ get_or-set_other now n h false false q ∙ w t c h th
     ]
 
-pub prune_takes : (C S : ℕ) (links : List ℕ) (before now : List Bool) (pruned : Bool) (n : ℕ) → flag now n ≡ true → (Keeping C S links (flag now) n → ⊥)
+pub prune_takes : (C S : ℕ) (links : List (List (Option ℕ))) (before now : List Bool) (pruned : Bool) (n : ℕ) → flag now n ≡ true → (Keeping C S links (flag now) n → ⊥)
     → Pruning C S links before now pruned n → Pruning C S links before (set now n false) true (n + 1)
 prune_takes C S links before now pruned n f nay r =
     record {

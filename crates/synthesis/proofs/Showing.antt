@@ -188,21 +188,21 @@ alike a b = same a.marks b.marks
 
 module _ (A : Automaton) (c : ℕ) (L : List (List ℕ)) (whole : All (λ (Q : List ℕ). length Q ≡ A.states) L) where
   -- a link in the code, read in the model
-  link_leads : (Q : List ℕ) (l : ℕ) → length Q ≡ A.states → Link alike (map stored L) (cond (fits c Q) (Some (stored Q)) None) l → Leads c L Q l
-  link_leads Q l w h = go (fits c Q) h
+  link_leads : (Q : List ℕ) (l : Option ℕ) → length Q ≡ A.states → Link alike (map stored L) (cond (fits c Q) (Some (stored Q)) None) l → Leads c L Q l
+  link_leads Q l w h = go (fits c Q) refl h
     where
-      go : (b : Bool) → Link alike (map stored L) (cond b (Some (stored Q)) None) l → elim b as (λ v. Type 0) [ true ↦ (l < length L) × (get_or L l [] ≡ Q) | false ↦ l ≡ 65535 ]
-      go false k = k
-      go true k =
+      go : (b : Bool) → fits c Q ≡ b → Link alike (map stored L) (cond b (Some (stored Q)) None) l → Leads c L Q l
+      go false e k = subst (λ v. Leads c L Q v) (sym k) e
+      go true e k =
           let n = length-map L stored in
-          let lt : l < length L = let j = k.1 in omega (arith, n, j) in
-          let p = place_same alike (map stored L) (stored Q) (stored []) (subst (λ v. v < length (map stored L)) k.0 k.1) in
-          let q : alike (stored Q) (stored (get_or L l [])) ≡ true =
-          ap {B = Bool} (λ v. alike (stored Q) v) (sym (get_or-map stored L l [] (stored []) lt)) ∙ ap {B = Bool} (λ v. alike (stored Q) (get_or (map stored L) v (stored []))) k.0 ∙ p in
-          let wl : length (get_or L l []) ≡ A.states = All-get_or (λ (Q : List ℕ). length Q ≡ A.states) L l [] lt whole in
-          (lt, sym (same_sound Q (get_or L l []) (sym (stored_same A.states Q (get_or L l []) w wl) ∙ q)))
+          let at = place alike (map stored L) (stored Q) in
+          let lt : at < length L = let j = k.1 in omega (arith, n, j) in
+          let q : alike (stored Q) (stored (get_or L at [])) ≡ true =
+          ap {B = Bool} (λ v. alike (stored Q) v) (sym (get_or-map stored L at [] (stored []) lt)) ∙ place_same alike (map stored L) (stored Q) (stored []) k.1 in
+          let wl : length (get_or L at []) ≡ A.states = All-get_or (λ (Q : List ℕ). length Q ≡ A.states) L at [] lt whole in
+          subst (λ v. Leads c L Q v) (sym k.0) (e, lt, sym (same_sound Q (get_or L at []) (sym (stored_same A.states Q (get_or L at []) w wl) ∙ q)))
 
-  pub stepping : (links : List ℕ) → Linked alike 64 (λ P i. candidate A c (view A.states P) (i / 8) (i % 8)) (map stored L) links (length L)
+  pub stepping : (links : List (List (Option ℕ))) → Linked alike 64 (λ P i. candidate A c (view A.states P) (i / 8) (i % 8)) (map stored L) links (length L)
       → A.situations ≤ 8 → A.commands ≤ 8 → Stepping A c L links
   unfolding stepped
   stepping links linked hs hc h u x hl hu hx =
@@ -221,7 +221,7 @@ module _ (A : Automaton) (c : ℕ) (L : List (List ℕ)) (whole : All (λ (Q : L
       ∙ ap {B = Option Position} (λ v. candidate A c P u v) (digits_mod u x8)
       ∙ ap {B = Option Position} (λ b. cond (b && ltb x A.situations) (stepped A c u x P) None) (lt-ltb u A.commands hu)
       ∙ ap {B = Option Position} (λ b. cond b (stepped A c u x P) None) (lt-ltb x A.situations hx) in
-      link_leads (step A u x P) (get_or links (h * 64 + j) 0) (step_length A u x P) (subst (λ v. Link alike (map stored L) v (get_or links (h * 64 + j) 0)) o k)
+      link_leads (step A u x P) (get_or (get_or links h []) j None) (step_length A u x P) (subst (λ v. Link alike (map stored L) v (get_or (get_or links h []) j None)) o k)
 
 -- what is stored shows again
 pub shown_again : (n : ℕ) (L : List (List ℕ)) → All (λ (Q : List ℕ). length Q ≡ n) L → map (view n) (map stored L) ≡ L
@@ -247,7 +247,7 @@ module _ (A : Automaton) (c : ℕ) (hc : A.commands ≤ 8) (hs : A.situations �
   within_c room e =
       ap {B = MaybeList (List (List ℕ))} (λ b. elim b as (λ v. MaybeList (List (List ℕ))) [ true ↦ reached_from same (successors A c) room (start_position A) | false ↦ some [] ]) e
 
-  pub explored_reached : (o : Option ℕ) (slots : List Position) (links : List ℕ) → fits c (start_position A) ≡ true
+  pub explored_reached : (o : Option ℕ) (slots : List Position) (links : List (List (Option ℕ))) → fits c (start_position A) ≡ true
       → Found o slots (reached_from alike (neighbours 64 at_place) (length slots) (stored (start_position A)))
       → IfSome o (λ n. Linked alike 64 at_place (take n slots) links n)
       → Reached A c (length slots) o slots links

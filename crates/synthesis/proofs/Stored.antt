@@ -1,5 +1,6 @@
 -- The states that are stored are those of the controller found, and automata that agree have the same answer. Assumes nothing.
-use Rattle.std.proofs.Common.{◌≡◌, ℕ, zero, suc, ◌+◌, ◌*◌, ◌<◌, ◌≤◌, Bool, List, [], ◌∷◌, map, length, get_or, take, Ok, Err, Result, sym, refl, ap, ◌∙◌, arith}
+use Rattle.std.proofs.Common.{◌≡◌, ℕ, zero, suc, ◌+◌, ◌<◌, ◌≤◌, Bool, List, [], ◌∷◌, map, length, get_or, take, None, Option, Ok, Err, Result, sym, refl, ap, ◌∙◌, arith}
+use Rattle.std.specs.Option.{unwrap_or}
 use Rattle.std.specs.List.{range_with_len}
 use Rattle.std.proofs.lemmas.List.{length-map, length-take-le, get_or-take, take-map}
 use Rattle.model.specs.Automaton.{Automaton, Row}
@@ -32,7 +33,7 @@ take_counting (suc k) a (suc n) h = ap {B = List ℕ} (λ l. a ∷ l) (take_coun
 abbrev nowhere : State
 nowhere = record { command = 0; nexts = []; position = record { marks = [] } }
 
-module _ (A : Automaton) (c len : ℕ) (slots : List Slot) (safe : List Bool) (n : ℕ) (places nexts : List ℕ) (few : A.situations ≤ 8)
+module _ (A : Automaton) (c len : ℕ) (slots : List Slot) (safe : List Bool) (n : ℕ) (places : List ℕ) (nexts : List (List (Option ℕ))) (few : A.situations ≤ 8)
     (controlled : Controlled A slots len safe n places nexts) (long : len ≤ length places) (states : List State) (roomy : len ≤ length states)
     (stands : (s : ℕ) (d : State) → s < n → StandsAt A len slots places nexts s (get_or states s d)) where
   abbrev R : List Position
@@ -53,7 +54,7 @@ module _ (A : Automaton) (c len : ℕ) (slots : List Slot) (safe : List Bool) (n
   row_stored s h =
       let state = get_or states s nowhere in
       let t = stands s nowhere h in
-      let f = λ (x : ℕ). get_or nexts (s * 8 + x) 0 in
+      let f = λ (x : ℕ). unwrap_or (get_or (get_or nexts s []) x None) 0 in
       let nexts-same : take A.situations state.nexts ≡ map f (range_with_len 0 A.situations) =
       ap {B = List ℕ} (take A.situations) t.nexts_are ∙ take-map f A.situations (range_with_len 0 8) ∙ ap {B = List ℕ} (map f) (take_counting A.situations 0 8 few) in
       ap {B = Row} (λ u. record { command = u; nexts = take A.situations state.nexts }) t.command

@@ -24,8 +24,8 @@ use Rattle.synthesis.proofs.Pruned.{flag_inside}
 use Rattle.synthesis.proofs.Controls.{tests, leads, stays, pick_at, row_is}
 use Rattle.synthesis.proofs.Whole.{safe_count, start_first, trues_short}
 
-module _ (A : Automaton) (c room len : ℕ) (slots : List Stored) (links : List ℕ) (safe : List Bool)
-    (hr : room ≤ 65535) (hl : len ≤ length slots) (hs : A.situations ≤ 8) (s : Surveyed A c room (Some len) slots links safe)
+module _ (A : Automaton) (c room len : ℕ) (slots : List Stored) (links : List (List (Option ℕ))) (safe : List Bool)
+    (hl : len ≤ length slots) (hs : A.situations ≤ 8) (s : Surveyed A c room (Some len) slots links safe)
     (hf : len ≤ length safe) (some-len : 0 < len) (begins : flag safe 0 ≡ true) where
   abbrev L : List Position
   L = shown A len slots
@@ -42,9 +42,6 @@ module _ (A : Automaton) (c room len : ℕ) (slots : List Stored) (links : List 
   long : length flags ≡ length L
   long = length-take-le len safe hf ∙ sym long_L
 
-  few : length L ≤ 65535
-  few = let a = s.0.0 in omega (arith, long_L, a)
-
   low : (u x h : ℕ) → In L (step A u x (get_or L h [])) → fits c (step A u x (get_or L h [])) ≡ true
   low u x h i = listed_fits A c room L s.0.1 (step A u x (get_or L h [])) i (step_length A u x (get_or L h []))
 
@@ -52,7 +49,7 @@ module _ (A : Automaton) (c room len : ℕ) (slots : List Stored) (links : List 
   is h lt = get_or-take len safe h false (omega (arith, long_L)) ∙ s.1 h (omega (arith, long_L))
 
   within : (Q : Position) → In R Q → In L Q
-  within Q i = safe_within A c L links s.0.2 few low Q i
+  within Q i = safe_within A c L links s.0.2 low Q i
 
   apart : Distinct L
   apart = ((reach_exact A c room).0 L s.0.1).0
@@ -74,22 +71,22 @@ module _ (A : Automaton) (c room len : ℕ) (slots : List Stored) (links : List 
   carried_over o e =
       ap {B = MaybeList (List Position)} (λ v. reached_from same (λ P. steps A P (command_at A R P)) (length R) v) (sym starts)
       ∙ search_carried eqb (neighbours 8 go) same (λ P. steps A P (command_at A R P)) (λ h. get_or L h []) (λ h. flag flags h ≡ true)
-      (tests A c L links s.0.2 few low R within flags long is (part_kept A L) apart hs)
-      (leads A c L links s.0.2 few low R within flags long is (part_kept A L) apart hs)
-      (stays A c L links s.0.2 few low R within flags long is (part_kept A L) apart hs)
+      (tests A c L links s.0.2 low R within flags long is (part_kept A L) apart hs)
+      (leads A c L links s.0.2 low R within flags long is (part_kept A L) apart hs)
+      (stays A c L links s.0.2 low R within flags long is (part_kept A L) apart hs)
       (length R) 0 begins_here
       ∙ ap {B = MaybeList (List Position)} (λ n. carried (λ h. get_or L h []) (reached_from eqb (neighbours 8 go) n 0)) room_is
       ∙ ap {B = MaybeList (List Position)} (carried (λ h. get_or L h [])) e
 
   good_found : GoodFound eqb (neighbours 8 go) same (λ P. steps A P (command_at A R P)) (λ h. get_or L h []) (λ h. flag flags h ≡ true)
-      (tests A c L links s.0.2 few low R within flags long is (part_kept A L) apart hs)
-      (leads A c L links s.0.2 few low R within flags long is (part_kept A L) apart hs)
-      (stays A c L links s.0.2 few low R within flags long is (part_kept A L) apart hs)
+      (tests A c L links s.0.2 low R within flags long is (part_kept A L) apart hs)
+      (leads A c L links s.0.2 low R within flags long is (part_kept A L) apart hs)
+      (stays A c L links s.0.2 low R within flags long is (part_kept A L) apart hs)
       (reached_from eqb (neighbours 8 go) (trues flags) 0)
   good_found = search_good eqb (neighbours 8 go) same (λ P. steps A P (command_at A R P)) (λ h. get_or L h []) (λ h. flag flags h ≡ true)
-      (tests A c L links s.0.2 few low R within flags long is (part_kept A L) apart hs)
-      (leads A c L links s.0.2 few low R within flags long is (part_kept A L) apart hs)
-      (stays A c L links s.0.2 few low R within flags long is (part_kept A L) apart hs)
+      (tests A c L links s.0.2 low R within flags long is (part_kept A L) apart hs)
+      (leads A c L links s.0.2 low R within flags long is (part_kept A L) apart hs)
+      (stays A c L links s.0.2 low R within flags long is (part_kept A L) apart hs)
       (trues flags) 0 begins_here
 
   safe_start : In R (start_position A)
@@ -104,7 +101,7 @@ module _ (A : Automaton) (c room len : ℕ) (slots : List Stored) (links : List 
       let f : 0 < length (map (row_at A R met) met) = (found_formed A c L ((reach_exact A c room).0 L s.0.1).2 safe_start).some_state in
       omega (arith, f, length-map met (row_at A R met), ap {B = ℕ} length z)
 
-  pub controlled : (n : ℕ) (part more nexts : List ℕ) → length part ≡ trues flags → Found (Some n) part (reached_from eqb (neighbours 8 go) (trues flags) 0)
+  pub controlled : (n : ℕ) (part more : List ℕ) (nexts : List (List (Option ℕ))) → length part ≡ trues flags → Found (Some n) part (reached_from eqb (neighbours 8 go) (trues flags) 0)
       → Linked eqb 8 go (take n part) nexts n → Controlled A slots len safe n (part ++ more) nexts
   unfolding states_met
   controlled n part more nexts lp e links-are =
@@ -114,9 +111,9 @@ module _ (A : Automaton) (c room len : ℕ) (slots : List Stored) (links : List 
       let lT : length T ≡ n = length-take-le n part hn in
       let good : All (λ h. flag flags h ≡ true) T = subst
       (λ o. GoodFound eqb (neighbours 8 go) same (λ P. steps A P (command_at A R P)) (λ h. get_or L h []) (λ h. flag flags h ≡ true)
-      (tests A c L links s.0.2 few low R within flags long is (part_kept A L) apart hs)
-      (leads A c L links s.0.2 few low R within flags long is (part_kept A L) apart hs)
-      (stays A c L links s.0.2 few low R within flags long is (part_kept A L) apart hs) o) e.2 good_found in
+      (tests A c L links s.0.2 low R within flags long is (part_kept A L) apart hs)
+      (leads A c L links s.0.2 low R within flags long is (part_kept A L) apart hs)
+      (stays A c L links s.0.2 low R within flags long is (part_kept A L) apart hs) o) e.2 good_found in
       let linked : Linked eqb 8 go T nexts (length T) = subst (λ v. Linked eqb 8 go T nexts v) (sym lT) links-are in
       let place_of : (k : ℕ) → k < n → get_or (part ++ more) k 0 ≡ get_or T k 0 = λ k l. get_or_append_left part more 0 k (omega (arith, l, hn)) ∙ sym (get_or-take n part k 0 l) in
       let flagged : (k : ℕ) → k < n → flag flags (get_or T k 0) ≡ true = λ k l. All-get_or (λ h. flag flags h ≡ true) T k 0 (omega (arith, l, lT)) good in
@@ -130,7 +127,7 @@ module _ (A : Automaton) (c room len : ℕ) (slots : List Stored) (links : List 
             ap {B = List ℕ} (λ t. (row_at A R (map (λ h. get_or L h []) t) (get_or L (get_or (part ++ more) k 0) [])).nexts) eT
             ∙ ap {B = List ℕ} (λ v. (row_at A R (map (λ h. get_or L h []) T) (get_or L v [])).nexts) (place_of k l)
             ∙ ap {B = List ℕ} (λ (r : Row). r.nexts)
-            (row_is A c L links s.0.2 few low R within flags long is (part_kept A L) apart hs T nexts k good (omega (arith, l, lT)) linked (flagged k l));
+            (row_is A c L links s.0.2 low R within flags long is (part_kept A L) apart hs T nexts k good (omega (arith, l, lT)) linked (flagged k l));
         inside = λ k l.
             let f = flagged k l in
             let i = flag_inside flags (get_or T k 0) f in
@@ -139,16 +136,15 @@ module _ (A : Automaton) (c room len : ℕ) (slots : List Stored) (links : List 
       }
 
 -- the command at a safe place
-pub command_told : (A : Automaton) (c room len : ℕ) (slots : List Stored) (links : List ℕ) (safe : List Bool) → room ≤ 65535 → len ≤ length slots → A.situations ≤ 8
+pub command_told : (A : Automaton) (c room len : ℕ) (slots : List Stored) (links : List (List (Option ℕ))) (safe : List Bool) → len ≤ length slots → A.situations ≤ 8
     → Surveyed A c room (Some len) slots links safe → len ≤ length safe → (h : ℕ) → h < len → flag safe h ≡ true
     → (o : Option ℕ) → o ≡ lowest_kept A.commands A.situations links (take len safe) h → o ≡ Some (command_at A (safe_part A (shown A len slots)) (get_or (shown A len slots) h []))
-command_told A c room len slots links safe hr hl hs s hf h lt f o e =
+command_told A c room len slots links safe hl hs s hf h lt f o e =
     let L = shown A len slots in
     let flags = take len safe in
     let long_L : length L ≡ len = length-map (take len slots) (view A.states) ∙ length-take-le len slots hl in
     let long : length flags ≡ length L = length-take-le len safe hf ∙ sym long_L in
-    let few : length L ≤ 65535 = let a = s.0.0 in omega (arith, long_L, a) in
     let low : (u x h : ℕ) → In L (step A u x (get_or L h [])) → fits c (step A u x (get_or L h [])) ≡ true = λ u x h i. listed_fits A c room L s.0.1 (step A u x (get_or L h [])) i (step_length A u x (get_or L h [])) in
     let is : (h : ℕ) → h < length L → flag flags h ≡ member (safe_part A L) (get_or L h []) = λ h l. get_or-take len safe h false (omega (arith, long_L)) ∙ s.1 h (omega (arith, long_L)) in
-    let p = pick_at A c L links s.0.2 few low (safe_part A L) (safe_within A c L links s.0.2 few low) flags long is (part_kept A L) ((reach_exact A c room).0 L s.0.1).0 hs h (get_or-take len safe h false lt ∙ f) in
+    let p = pick_at A c L links s.0.2 low (safe_part A L) (safe_within A c L links s.0.2 low) flags long is (part_kept A L) ((reach_exact A c room).0 L s.0.1).0 hs h (get_or-take len safe h false lt ∙ f) in
     e ∙ p.is_lowest ∙ ap (λ u. Some u) (sym p.is_model)

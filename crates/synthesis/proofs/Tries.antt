@@ -1,5 +1,5 @@
 -- One bound after the other. Assumes nothing.
-use Rattle.std.proofs.Common.{◌≡◌, ℕ, suc, ◌+◌, ◌-◌, ◌<◌, ◌≤◌, Bool, true, false, List, length, take, Some, sym, refl, ap, ◌∙◌, add-one, arith}
+use Rattle.std.proofs.Common.{◌≡◌, ℕ, suc, ◌+◌, ◌-◌, ◌<◌, ◌≤◌, Bool, true, false, List, length, take, Some, Option as Maybe, sym, refl, ap, ◌∙◌, add-one, arith}
 use mathlib.Core.Option.{Option, none, some}
 use Rattle.std.proofs.lemmas.List.{length-map, length-take-le}
 use Rattle.model.specs.Automaton.{Automaton}
@@ -53,13 +53,13 @@ module _ (A : Automaton) (room : ℕ) where
   try_ends limit c h = let e : suc limit - c ≡ 0 = omega arith in ap {B = Solution} (λ n. try_from A room n c) e
 
   -- the start's flag tells whether the start is safe
-  pub start_told : (c len : ℕ) (slots : List Stored) (links : List ℕ) (safe : List Bool) → len ≤ length slots → Surveyed A c room (Some len) slots links safe → 0 < len
+  pub start_told : (c len : ℕ) (slots : List Stored) (links : List (List (Maybe ℕ))) (safe : List Bool) → len ≤ length slots → Surveyed A c room (Some len) slots links safe → 0 < len
       → flag safe 0 ≡ member (safe_part A (shown A len slots)) (start_position A)
   start_told c len slots links safe hl s lt =
       let L = shown A len slots in
       let e : length L ≡ len = length-map (take len slots) (view A.states) ∙ length-take-le len slots hl in
       s.1 0 lt ∙ ap {B = Bool} (member (safe_part A L)) (start_first A c room L s.0.1 (omega (arith, e)))
 
-  pub start_lost : (c : ℕ) (slots : List Stored) (links : List ℕ) (safe : List Bool) → member (safe_part A (shown A 0 slots)) (start_position A) ≡ false
+  pub start_lost : (c : ℕ) (slots : List Stored) (links : List (List (Maybe ℕ))) (safe : List Bool) → member (safe_part A (shown A 0 slots)) (start_position A) ≡ false
   unfolding safe_part member
   start_lost c slots links safe = refl

@@ -1,8 +1,9 @@
 -- The safe part as a list, its length, and the first position. Assumes nothing.
-use Rattle.std.proofs.Common.{◌≡◌, ℕ, zero, suc, ◌+◌, ◌<◌, ◌≤◌, Bool, true, false, cond, eqb, ◌⊎◌, List, [], ◌∷◌, length, get_or, take, sym, refl, ap, ◌∙◌, subst, inl, inr, true≢false, zero-le, arith, length-append}
+use Rattle.std.proofs.Common.{◌≡◌, ℕ, zero, suc, ◌+◌, ◌<◌, ◌≤◌, Bool, true, false, cond, eqb, ◌⊎◌, List, [], ◌∷◌, length, get_or, sym, refl, ap, ◌∙◌, subst, inl, inr, true≢false, zero-le, arith, length-append}
 use mathlib.Core.Bool.{false≢true}
 use mathlib.Core.Option.{some}
-use Rattle.std.specs.List.{filter}
+use Rattle.std.specs.List.{count_by, filter}
+use Rattle.std.proofs.lemmas.List.Recursion.{is_count_by}
 use Rattle.model.specs.Automaton.{Automaton}
 use Rattle.model.specs.Lists.{In}
 use Rattle.model.specs.Positions.{Position, start_position, successors, reach, member, kept, pruned, safe_part}
@@ -71,10 +72,12 @@ module _ (A : Automaton) where
           front (inl (e, f)) = f
           front (inr (earlier, z, later, left, right, e, f, g, h)) = absurd (omega (arith, ap length e, length-append earlier (z ∷ later)))
 
-pub trues_more : (bs : List Bool) (i : ℕ) → i < length bs → trues (take (i + 1) bs) ≡ trues (take i bs) + cond (flag bs i) 1 0
-trues_more [] i l = absurd (omega arith)
-trues_more (b ∷ bs) zero l = omega arith
-trues_more (b ∷ bs) (suc i) l = let r = trues_more bs i (omega arith) in let e : suc i + 1 ≡ suc (i + 1) = omega arith in ap {B = ℕ} (λ k. trues (take k (b ∷ bs))) e ∙ omega (arith, r)
+pub trues_counted : (bs : List Bool) → count_by (λ b. b) bs ≡ trues bs
+trues_counted bs = sym (is_count_by trues (λ b. b) refl (λ b bs. more b (trues bs)) bs)
+  where
+    more : (b : Bool) (n : ℕ) → cond b 1 0 + n ≡ cond b (1 + n) n
+    more true n = refl
+    more false n = omega arith
 
 pub trues_short : (bs : List Bool) → trues bs ≤ length bs
 trues_short [] = zero-le

@@ -1,6 +1,5 @@
 -- What solve answers, and what it stores.
-use Rattle.std.specs.Prelude.{◌≡◌, ℕ, ◌+◌, ◌*◌, ◌≤◌, List, [], map, length, take, slice_index, slice_index_or, Ok, Err, Result}
-use Rattle.std.specs.List.{range_with_len}
+use Rattle.std.specs.Prelude.{◌≡◌, ℕ, ◌≤◌, List, [], map, length, take, slice_index, slice_index_or, Option, Ok, Err, Result}
 use Rattle.model.specs.Automaton.{Automaton, Row}
 use Rattle.model.specs.Positions.{Found, solve, found, none_found, too_crowded, command_at, safe_part}
 use Rattle.synthesis.specs.declared.position.Position.{Position as Stored}
@@ -10,6 +9,7 @@ use Rattle.synthesis.specs.declared.solved.Unsolved.{Unsolved}
 use Rattle.synthesis.specs.declared.solved.Unsolved.TheVariants.{NoneFound, Crowded}
 use Rattle.synthesis.specs.Tables.{view}
 use Rattle.synthesis.specs.Surveys.{shown}
+use Rattle.synthesis.specs.Control.{next_states}
 
 -- the row of a stored state, for so many situations
 abbrev pub row_of : ℕ → State → Row
@@ -20,9 +20,9 @@ abbrev pub position_of : ℕ → State → List ℕ
 position_of n state = view n state.position
 
 -- a stored state is the s-th of the places: it has the lowest command there, the next states of the table, and the place's position
-pub record StandsAt (A : Automaton) (len : ℕ) (slots : List Stored) (places nexts : List ℕ) (s : ℕ) (state : State) : Type 0 where
+pub record StandsAt (A : Automaton) (len : ℕ) (slots : List Stored) (places : List ℕ) (nexts : List (List (Option ℕ))) (s : ℕ) (state : State) : Type 0 where
   pub command : state.command ≡ command_at A (safe_part A (shown A len slots)) (slice_index_or (shown A len slots) (slice_index places s) [])
-  pub nexts_are : state.nexts ≡ map (λ x. slice_index nexts (s * 8 + x)) (range_with_len 0 8)
+  pub nexts_are : state.nexts ≡ next_states nexts s 8
   pub position : position_of A.states state ≡ slice_index_or (shown A len slots) (slice_index places s) []
 
 -- the first states, so many as there are said to be, are the controller found, state by state

@@ -1,6 +1,6 @@
 //! The two graphs that are searched.
 
-ghost use Rattle.std.specs.Prelude.{◌*◌, ◌<◌, ◌≤◌, length};
+ghost use Rattle.std.specs.Prelude.{◌<◌, ◌≤◌, length};
 
 use crate::arrows::Arrows;
 use rules::Numbers;
@@ -14,10 +14,13 @@ pub struct Positions<'a> {
 }
 
 /// The places of a table of links, under the lowest commands that stay among the safe ones.
+///
+/// The links of a place lie in a row of 64: under the command u, the situation x leads to the link u * 8 + x. Where there is none, or
+/// it is no safe place, it leads out of the set.
 #[derive(Clone, Copy)]
 pub struct Chosen<'a> {
     pub numbers: Numbers,
-    pub links: &'a [u16],
+    pub links: &'a [[Option<u16>; 64]],
     pub safe: &'a [bool],
-    ghost rows: { length safe.now * 64 ≤ length links.now },
+    ghost rows: { length safe.now ≤ length links.now },
 }

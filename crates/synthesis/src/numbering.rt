@@ -1,6 +1,6 @@
 //! The states of a controller, in the order of meeting.
 
-ghost use Rattle.std.specs.Prelude.{◌≡◌, ◌*◌, ◌<◌, ◌≤◌, true, length, take, IfSome, Some, ◌==◌, nat_eq};
+ghost use Rattle.std.specs.Prelude.{◌≡◌, ◌*◌, ◌<◌, ◌≤◌, true, length, take, IfSome, Some, ◌==◌, nat_eq, count_by};
 ghost use Rattle.model.specs.Search.{reached_from};
 ghost use Rattle.search.specs.Meeting.{successors, Linked, Found};
 ghost use Rattle.synthesis.specs.Tables.{automaton};
@@ -11,18 +11,15 @@ ghost use Rattle.synthesis.specs.Control.{onward, Controlled};
 use crate::arrows::Arrows;
 use crate::graphs::Chosen;
 use crate::position::Position;
-use crate::pruning::lowest_command;
 use rules::Numbers;
 use search::breadth_first::explore;
 use search::graph::Graph;
 
 /// The successor with the number i is the place that the lowest command leads to in the situation i.
-impl Graph for Chosen<'_> {
+impl Graph<8> for Chosen<'_> {
     type Node = u16;
 
     ghost same = { λ g a b. (a == b) };
-
-    ghost degree = { λ g. 8 };
 
     ghost successor = { λ g h x. onward g.numbers.commands g.numbers.situations g.links.now g.safe.now h x };
 
@@ -30,17 +27,13 @@ impl Graph for Chosen<'_> {
         *a == *b
     }
 
-    fn degree(&self) -> usize {
-        8
-    }
-
     fn successor(&self, node: &u16, i: usize) -> Option<u16> {
         let place = *node as usize;
         if place >= self.safe.len() || i >= self.numbers.situations as usize {
             return None;
         }
-        match lowest_command(self.numbers, self.links, self.safe, place) {
-            Some(command) => Some(self.links[place * 64 + (command as usize * 8 + i)]),
+        match self.lowest_command(place) {
+            Some(command) => self.links[place][command as usize * 8 + i],
             None => None,
         }
     }
@@ -48,29 +41,22 @@ impl Graph for Chosen<'_> {
 
 /// How many places are safe.
 fn count(safe: &[bool]) -> usize
-    ensures value { result ≡ trues safe.now }
-    ensures bound { result ≤ length safe.now }
+    ensures { result ≡ count_by (λ flag. flag) safe.now }
 {
-    let mut n = 0;
-    for flag in safe {
-        if *flag {
-            n += 1;
-        }
-    }
-    n
+    safe.iter().filter(|flag| **flag).count()
 }
 
 /// Meets the places that the lowest commands lead to from the first one, and links them. None, if there are more than slots.
 fn number<'a>(
     numbers: Numbers,
-    links: &'a [u16],
+    links: &'a [[Option<u16>; 64]],
     safe: &'a [bool],
     places: &mut [u16],
     waiting: &mut [u16],
-    nexts: &mut [u16],
+    nexts: &mut [[Option<u16>; 8]],
 ) -> Option<usize>
     requires room { (0 < length places.old) × ((length places.old ≤ 65535) × (length places.old ≤ length waiting.old)) }
-    requires rows { (length places.old * 8 ≤ length nexts.old) × (length safe.now * 64 ≤ length links.now) }
+    requires rows { (length places.old ≤ length nexts.old) × (length safe.now ≤ length links.now) }
     ensures places { Found result places.new (reached_from nat_eq (successors 8 (onward numbers.commands numbers.situations links.now safe.now)) (length places.old) 0) }
     ensures nexts { IfSome result (λ n. Linked nat_eq 8 (onward numbers.commands numbers.situations links.now safe.now) (take n places.new) nexts.new n) }
 {
@@ -95,16 +81,16 @@ pub fn control<'a>(
     c: u8,
     met: &[Position],
     len: usize,
-    links: &'a [u16],
+    links: &'a [[Option<u16>; 64]],
     safe: &'a [bool],
     places: &mut [u16],
     waiting: &mut [u16],
-    nexts: &mut [u16],
+    nexts: &mut [[Option<u16>; 8]],
 ) -> usize
     requires surveyed { Surveyed (automaton arrows.now) c (length met.now) (Some len) met.now links.now safe.now }
     requires start { (0 < len) × (flag safe.now 0 ≡ true) }
     requires room { (length met.now ≤ 65535) × ((len ≤ length met.now) × ((len ≤ length safe.now) × ((len ≤ length places.old) × (len ≤ length waiting.old)))) }
-    requires rows { (len * 64 ≤ length links.now) × (len * 8 ≤ length nexts.old) }
+    requires rows { (len ≤ length links.now) × (len ≤ length nexts.old) }
     ensures { Controlled (automaton arrows.now) met.now len safe.now result places.new nexts.new }
 {
     let safe = &safe[0..len];

@@ -24,17 +24,17 @@ fn solve_table(
     limit: u8,
     met: &mut [Position],
     waiting: &mut [Position],
-    links: &mut [u16],
+    links: &mut [[Option<u16>; 64]],
     safe: &mut [bool],
     places: &mut [u16],
     waiting_places: &mut [u16],
-    nexts: &mut [u16],
+    nexts: &mut [[Option<u16>; 8]],
     states: &mut [State],
 ) -> Result<Found, Unsolved>
     requires low { limit < 254 }
     requires room { (0 < length met.old) × ((length met.old ≤ 65535) × ((length met.old ≤ length waiting.old) × (length met.old ≤ length safe.old))) }
     requires state_room { (length met.old ≤ length places.old) × ((length met.old ≤ length waiting_places.old) × (length met.old ≤ length states.old)) }
-    requires rows { (length met.old * 64 ≤ length links.old) × (length met.old * 8 ≤ length nexts.old) }
+    requires rows { (length met.old ≤ length links.old) × (length met.old ≤ length nexts.old) }
     ensures { Answered (automaton arrows.now) (length met.old) limit result states.new }
 {
     for c in 0..limit + 1 {

@@ -25,21 +25,15 @@ fn same_marks(a: &[u8; 16], b: &[u8; 16]) -> bool
 }
 
 /// The successor with the number i is the step under the command i / 8 in the situation i % 8.
-impl Graph for Positions<'_> {
+impl Graph<64> for Positions<'_> {
     type Node = Position;
 
     ghost same = { λ g a b. same_marks a.marks b.marks };
-
-    ghost degree = { λ g. 64 };
 
     ghost successor = { λ g P i. candidate (automaton g.arrows.now) g.c (view g.arrows.now.states P) (i / 8) (i % 8) };
 
     fn same(&self, a: &Position, b: &Position) -> bool {
         same_marks(&a.marks, &b.marks)
-    }
-
-    fn degree(&self) -> usize {
-        64
     }
 
     fn successor(&self, node: &Position, i: usize) -> Option<Position> {
@@ -59,11 +53,11 @@ fn reach(
     c: u8,
     met: &mut [Position],
     waiting: &mut [Position],
-    links: &mut [u16],
+    links: &mut [[Option<u16>; 64]],
 ) -> Option<usize>
     requires low { c < 255 }
     requires room { (0 < length met.old) × ((length met.old ≤ 65535) × (length met.old ≤ length waiting.old)) }
-    requires rows { length met.old * 64 ≤ length links.old }
+    requires rows { length met.old ≤ length links.old }
     ensures { Reached (automaton arrows.now) c (length met.old) result met.new links.new }
 {
     let first = start(arrows);
@@ -79,12 +73,12 @@ pub fn survey(
     c: u8,
     met: &mut [Position],
     waiting: &mut [Position],
-    links: &mut [u16],
+    links: &mut [[Option<u16>; 64]],
     safe: &mut [bool],
 ) -> Option<usize>
     requires low { c < 255 }
     requires room { (0 < length met.old) × ((length met.old ≤ 65535) × ((length met.old ≤ length waiting.old) × (length met.old ≤ length safe.old))) }
-    requires rows { length met.old * 64 ≤ length links.old }
+    requires rows { length met.old ≤ length links.old }
     ensures { Surveyed (automaton arrows.now) c (length met.old) result met.new links.new safe.new }
 {
     let len = reach(arrows, c, met, waiting, links)?;

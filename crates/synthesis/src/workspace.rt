@@ -21,25 +21,25 @@ pub struct Workspace {
     pub met: Vec<Position>,
     /// Those of them whose steps are not yet met.
     pub waiting: Vec<Position>,
-    /// For each position met, the places of its steps: 64 numbers.
-    pub links: Vec<u16>,
+    /// For each position met, the places of its steps.
+    pub links: Vec<[Option<u16>; 64]>,
     /// Whether a position met is safe.
     pub safe: Vec<bool>,
     /// The place of each state of the controller among the positions met.
     pub places: Vec<u16>,
     /// Those of them whose next states are not yet numbered.
     pub waiting_places: Vec<u16>,
-    /// For each state of the controller, its next states: 8 numbers.
-    pub nexts: Vec<u16>,
+    /// For each state of the controller, its next states.
+    pub nexts: Vec<[Option<u16>; 8]>,
     /// The states of the controller found.
     pub states: Vec<State>,
     ghost met_full: { vec_len met ≡ 1024 },
     ghost waiting_full: { vec_len waiting ≡ 1024 },
-    ghost links_full: { vec_len links ≡ 65536 },
+    ghost links_full: { vec_len links ≡ 1024 },
     ghost safe_full: { vec_len safe ≡ 1024 },
     ghost places_full: { vec_len places ≡ 1024 },
     ghost waiting_places_full: { vec_len waiting_places ≡ 1024 },
-    ghost nexts_full: { vec_len nexts ≡ 8192 },
+    ghost nexts_full: { vec_len nexts ≡ 1024 },
     ghost states_full: { vec_len states ≡ 1024 },
 }
 
@@ -50,11 +50,11 @@ impl Workspace {
     {
         let met = vec![in heap; NO_POSITION; 1024]?;
         let waiting = vec![in heap; NO_POSITION; 1024]?;
-        let links = vec![in heap; 0u16; 65536]?;
+        let links = vec![in heap; [None; 64]; 1024]?;
         let safe = vec![in heap; false; 1024]?;
         let places = vec![in heap; 0u16; 1024]?;
         let waiting_places = vec![in heap; 0u16; 1024]?;
-        let nexts = vec![in heap; 0u16; 8192]?;
+        let nexts = vec![in heap; [None; 8]; 1024]?;
         let states = vec![in heap; NO_STATE; 1024]?;
         Ok(Workspace {
             met,

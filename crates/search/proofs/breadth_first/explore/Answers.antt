@@ -1,7 +1,11 @@
-use Rattle.std.proofs.Common.{◌≡◌, ℕ, ◌+◌, ◌-◌, ◌<◌, ◌≤◌, List, [], ◌∷◌, length, take, drop, set, sym, refl, ap, ◌∙◌, arith, length-drop, length-set}
+use Rattle.std.proofs.Common.{◌≡◌, ℕ, ◌+◌, ◌-◌, ◌<◌, ◌≤◌, List, [], ◌∷◌, length, take, drop, set, sym, refl, ap, ◌∙◌, arith, rules, length-drop, length-set}
 use Rattle.std.proofs.lemmas.List.{length-take-le, take_more_set, drop-take}
 use Rattle.std.proofs.lemmas.Bool.{lt-ltb}
+use Rattle.model.specs.Search.{fresh}
+use Rattle.search.specs.Meeting.{successors}
 use Rattle.search.specs.Waiting.{waiting}
+use Rattle.search.proofs.Links.{linked_more}
+use Rattle.search.proofs.OneByOne.{met_behind}
 use Rattle.search.proofs.Ring.{length_waiting, none_waiting}
 use Rattle.search.proofs.Turns.{Turn, longer, turning_first, turn, turning_last}
 use Rattle.search.proofs.breadth_first.explore.Given as given
@@ -15,14 +19,15 @@ loop-node-init g c =
     let slots = c.args.slots.now in
     let n = length-set met 0 first in
     let one : take 1 (set met 0 first) ≡ first ∷ [] = take_more_set met 0 first c.requires.some in
-    let queued = c.push.ensures.pushed (c.push.ensures.room ∙ lt-ltb 0 (length slots) (omega arith)) in
-    let empty = none_waiting slots 0 in
+    let made = c.new-queue.ensures in
+    let queued = c.push.ensures.pushed (c.push.ensures.room ∙ lt-ltb _ _ (omega (arith, made.empty, ap length made.slots))) in
+    let empty : waiting c.new-queue.result.slots.now c.new-queue.result.head c.new-queue.result.len ≡ [] =
+    ap (waiting c.new-queue.result.slots.now c.new-queue.result.head) made.empty ∙ none_waiting c.new-queue.result.slots.now c.new-queue.result.head in
     let waits : waiting c.push.new.self.slots.now c.push.new.self.head c.push.new.self.len ≡ first ∷ [] = rw empty at queued in (
       refl,
       omega arith,
-      rw (one, waits) (turning_first (g.G.Graph.same c.args.graph.now) (g.G.Graph.degree c.args.graph.now) (g.G.Graph.successor c.args.graph.now) (length (set met 0 first)) first (omega arith) c.args.links.now),
-      c.push.ensures.fits,
-      omega (arith, c.push.ensures.slots),
+      rw (one, waits) (turning_first (g.G.Graph.same c.args.graph.now) g.row.DEGREE (g.G.Graph.successor c.args.graph.now) (length (set met 0 first)) first (omega arith) c.args.links.now),
+      omega (arith, c.push.ensures.slots, ap length made.slots),
     )
 
 -- what stands behind the first nodes met
@@ -33,10 +38,10 @@ part xs met len to e le =
 
 -- the turn of the node that was popped
 turn_now : (g : given.Over) (c : In-Some g)
-    → Turn (g.G.Graph.same c.args.graph.now) (g.G.Graph.degree c.args.graph.now) (g.G.Graph.successor c.args.graph.now) (length (set c.args.met.now 0 c.args.first.now)) c.args.first.now
+    → Turn (g.G.Graph.same c.args.graph.now) g.row.DEGREE (g.G.Graph.successor c.args.graph.now) (length (set c.args.met.now 0 c.args.first.now)) c.args.first.now
     (take c.loop-node.len c.loop-node.met) c.loop-node.row c.in-Some.node (waiting c.pop.new.self.slots.now c.pop.new.self.head c.pop.new.self.len)
 turn_now g c =
-    turn (g.G.Graph.same c.args.graph.now) (g.G.Graph.degree c.args.graph.now) (g.G.Graph.successor c.args.graph.now) (length (set c.args.met.now 0 c.args.first.now)) c.args.first.now
+    turn (g.G.Graph.same c.args.graph.now) g.row.DEGREE (g.G.Graph.successor c.args.graph.now) (length (set c.args.met.now 0 c.args.first.now)) c.args.first.now
     (take c.loop-node.len c.loop-node.met) (waiting c.loop-node.queue.slots.now c.loop-node.queue.head c.loop-node.queue.len) c.loop-node.links c.loop-node.row
     c.in-Some.node (waiting c.pop.new.self.slots.now c.pop.new.self.head c.pop.new.self.len) c.loop-node.invariant.2 c.in-Some.ensures.popped
 
@@ -47,6 +52,10 @@ met_now g c = length-take-le c.loop-node.len c.loop-node.met (omega (arith, c.lo
 early : (g : given.Over) (c : In-Some g) → c.loop-node.row < c.loop-node.len
 early g c = omega (arith, met_now g c, (turn_now g c).early)
 
+-- there is a row for its links
+row_there : (g : given.Over) (c : In-Some g) → c.loop-node.row < length c.loop-node.links
+row_there g c = let h = early g c in omega (arith, c.loop-node.invariant.1, c.loop-node.auto.links, length-set c.args.met.now 0 c.args.first.now, c.requires.rows)
+
 -- and how many after it
 met_then : (g : given.Over) (c : In_ok-more g) → length (take c.in_ok-more.more c.spread.new.met) ≡ c.in_ok-more.more
 met_then g c = length-take-le c.in_ok-more.more c.spread.new.met c.in_ok-more.ensures.nodes.0
@@ -55,21 +64,21 @@ more : (g : given.Over) (c : In_ok-more g) → c.loop-node.len ≤ c.in_ok-more.
 more g c =
     let n = length-take-le c.loop-node.len c.loop-node.met (omega (arith, c.loop-node.invariant.0, c.loop-node.invariant.1)) in
     let l =
-    longer (g.G.Graph.same c.args.graph.now) (g.G.Graph.degree c.args.graph.now) (g.G.Graph.successor c.args.graph.now)
+    longer (g.G.Graph.same c.args.graph.now) g.row.DEGREE (g.G.Graph.successor c.args.graph.now)
     (take c.loop-node.len c.loop-node.met) (take c.in_ok-more.more c.spread.new.met) c.in-Some.node c.in_ok-more.ensures.nodes.1 in
     omega (arith, met_then g c)
+
+pub bounds-links-row : goal.bounds-links-row
+bounds-links-row g c = row_there g (goal.at.bounds-links-row g c).In-Some
 
 pub spread-requires : goal.spread-requires
 spread-requires g c =
     let n = c.loop-node.invariant.0 ∙ length-set c.args.met.now 0 c.args.first.now in
     record {
       within = omega (arith, c.loop-node.invariant.0, c.loop-node.invariant.1);
-      linkable = omega (arith, n);
-      rows = rw n (omega (arith, c.requires.rows, c.loop-node.auto.links));
+      linkable = omega (arith, n, c.requires.linkable);
+      row = search rules;
       itself = c.requires.itself;
-      below = early g (goal.at.spread-requires g c).In-Some;
-      here = (turn_now g (goal.at.spread-requires g c).In-Some).here;
-      linked = c.loop-node.invariant.2.linked;
     }
 
 pub shape_of-met-in_err-more : goal.shape_of-met-in_err-more
@@ -97,14 +106,11 @@ push_all-requires g c =
     let le = more g (goal.at.push_all-requires g c).In_ok-more in
     let now = met_now g (goal.at.push_all-requires g c).In-Some in
     let few = (turn_now g (goal.at.push_all-requires g c).In-Some).few in
-    let queued = length_waiting c.pop.new.self.slots.now c.pop.new.self.head c.pop.new.self.len popped.fits in
+    let queued = length_waiting c.pop.new.self.slots.now c.pop.new.self.head c.pop.new.self.len c.pop.new.self.fits in
     let last : to ≤ length met = c.in_ok-more.ensures.nodes.0 in
     let same-slots : length c.pop.new.self.slots.now ≡ length c.loop-node.queue.slots.now = let e = popped.slots in cc in
     let new : length (take (to - len) (drop len met)) ≡ to - len = length-take-le (to - len) (drop len met) (simp length-drop (omega arith)) in
-    record {
-      fits = popped.fits;
-      room = omega (arith, c.loop-node.invariant.4, c.spread.auto.met, c.loop-node.invariant.0);
-    }
+    omega (arith, c.loop-node.invariant.3, c.spread.auto.met, c.loop-node.invariant.0)
 
 pub overflow_add-row : goal.overflow_add-row
 overflow_add-row g c =
@@ -124,16 +130,23 @@ loop-node-preserved g c =
     let spread = c.in_ok-more.ensures in
     let le = more g (goal.at.loop-node-preserved g c).In_ok-more in
     let same-slots : length c.pop.new.self.slots.now ≡ length c.loop-node.queue.slots.now = let e = popped.slots in cc in
-    let few : to ≤ length (set c.args.met.now 0 c.args.first.now) = omega (arith, spread.nodes.0, c.spread.auto.met, c.loop-node.invariant.0) in (
+    let few : to ≤ length (set c.args.met.now 0 c.args.first.now) = omega (arith, spread.nodes.0, c.spread.auto.met, c.loop-node.invariant.0) in
+    let same = g.G.Graph.same c.args.graph.now in
+    let successor = g.G.Graph.successor c.args.graph.now in
+    let node = c.in-Some.node in
+    let before = take len c.loop-node.met in
+    let turn_is = turn_now g (goal.at.loop-node-preserved g c).In-Some in
+    let linked =
+    linked_more same g.row.DEGREE successor before (fresh same before (successors g.row.DEGREE successor node)) (take to met) c.loop-node.links node c.loop-node.row c.spread.new.links
+    (spread.nodes.1 ∙ met_behind same g.row.DEGREE successor before node) c.loop-node.invariant.2.linked turn_is.early (row_there g (goal.at.loop-node-preserved g c).In-Some) turn_is.here spread.links in (
       c.spread.auto.met ∙ c.loop-node.invariant.0,
       few,
       rw c.push_all.ensures.pushed
-          ((turn_now g (goal.at.loop-node-preserved g c).In-Some).more (take to met) (take (to - len) (drop len met)) c.spread.new.links spread.nodes.1
+          ((turn_now g (goal.at.loop-node-preserved g c).In-Some).more (take to met) (take (to - len) (drop len met)) (set c.loop-node.links c.loop-node.row c.spread.new.links) spread.nodes.1
           (rw (met_then g (goal.at.loop-node-preserved g c).In_ok-more) few)
           (part met (take len c.loop-node.met) len to (met_now g (goal.at.loop-node-preserved g c).In-Some) le)
-          spread.links),
-      c.push_all.ensures.fits,
-      omega (arith, c.push_all.ensures.slots, c.loop-node.invariant.4),
+          linked),
+      omega (arith, c.push_all.ensures.slots, c.loop-node.invariant.3),
     )
 
 pub shape_of-met : goal.shape_of-met
@@ -144,7 +157,7 @@ returns g c =
     let n = length-set c.args.met.now 0 c.args.first.now in
     let l = length-take-le c.loop-node.len c.loop-node.met (omega (arith, c.loop-node.invariant.0, c.loop-node.invariant.1)) in
     let last =
-    turning_last (g.G.Graph.same c.args.graph.now) (g.G.Graph.degree c.args.graph.now) (g.G.Graph.successor c.args.graph.now) (length (set c.args.met.now 0 c.args.first.now)) c.args.first.now
+    turning_last (g.G.Graph.same c.args.graph.now) g.row.DEGREE (g.G.Graph.successor c.args.graph.now) (length (set c.args.met.now 0 c.args.first.now)) c.args.first.now
     (take c.loop-node.len c.loop-node.met) (waiting c.loop-node.queue.slots.now c.loop-node.queue.head c.loop-node.queue.len) c.loop-node.links c.loop-node.row
     c.loop-node.invariant.2 c.in_default.ensures.popped.0 in
     record {

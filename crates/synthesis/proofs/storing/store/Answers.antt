@@ -1,5 +1,7 @@
-use Rattle.std.proofs.Common.{◌≡◌, ◌<◌, [], get_or, take, sym, ap, ◌∙◌, arith}
+use Rattle.std.proofs.Common.{◌≡◌, ◌<◌, [], get_or, take, None, sym, ap, ◌∙◌, arith}
+use Rattle.std.specs.Option.{unwrap_or}
 use Rattle.std.proofs.lemmas.List.{length-take-le, get_or-map, get_or-take}
+use Rattle.std.proofs.lemmas.List.FromFn.{fill_by_all}
 use Rattle.synthesis.specs.declared.state.State.{State}
 use Rattle.synthesis.specs.Tables.{automaton, view}
 use Rattle.synthesis.specs.Surveys.{shown}
@@ -22,4 +24,4 @@ loop-state-preserved c k d lt =
     sym (get_or-map (view A.states) (take len met) place (position []) [] (omega (arith, inside, length-take-le len met (omega arith))) ∙ ap (view A.states) (get_or-take len met place (position []) inside)) in
     place_more (λ k state. StandsAt A len met places nexts k state) c.loop-state.states i new d
     (let few = c.requires.controlled.few in omega (arith, few)) (λ j l. c.loop-state.invariant j d l)
-    (record { command = c.command_at.ensures; nexts_are = c.next_states.ensures; position = at_place }) k lt
+    (record { command = c.command_at.ensures; nexts_are = fill_by_all (λ x. unwrap_or (get_or (get_or nexts i []) x None) 0) c.next_states.result 8 0 (omega arith) c.next_states.ensures; position = at_place }) k lt

@@ -16,7 +16,7 @@ returns-then-not-fits c =
     (zero-le, over_at_start A c.args.c (length c.args.met.now) (ap (fits c.args.c) (sym v) ∙ sym c.if-not-fits.ensures), λ h u x l. absurd (omega (arith, l)))
 
 pub explore-requires : goal.explore-requires
-explore-requires c = record { some = omega arith; linkable = omega arith; slots = omega arith; rows = omega arith; itself = λ x. same_refl x.marks }
+explore-requires c = (omega arith, (omega arith, (omega arith, (omega arith, (omega arith, λ x. same_refl x.marks)))))
 
 pub returns : goal.returns
 returns c =

@@ -13,6 +13,6 @@ returns c =
     let k : length c.safe_part.new.safe ≡ length (take (n - 0) c.args.safe.now) = c.safe_part.auto.safe in (
       r,
       survey_flags (automaton c.args.arrows.now) c.args.c (length c.args.met.now) n c.reach.new.met c.reach.new.links c.safe_part.new.safe
-          (post_of 0 (n - 0) c.args.safe.now) (omega arith) (omega (arith, a, c.reach.auto.met)) r
+          (post_of 0 (n - 0) c.args.safe.now) (omega (arith, a, c.reach.auto.met)) r
           (omega (arith, a, k, length-take-le (n - 0) c.args.safe.now (omega (arith, a)))) c.safe_part.ensures,
     )

@@ -10,5 +10,5 @@ returns g c =
     let head = c.args.self.now.head in
     let len = c.args.self.now.len in (
       λ t. ap (waiting slots head) (eqb-true len 0 t) ∙ none_waiting slots head,
-      λ e. eq-eqb len 0 (sym (length_waiting slots head len c.requires) ∙ ap length e),
+      λ e. eq-eqb len 0 (sym (length_waiting slots head len c.args.self.now.fits) ∙ ap length e),
     )

@@ -9,7 +9,7 @@ returns-then-self-eq0 g c =
     let slots = c.args.self.now.slots.now in
     let head = c.args.self.now.head in
     let e = ap (waiting slots head) c.if-self-eq0.true ∙ none_waiting slots head in
-    record { popped = (e, e); fits = search rules; slots = search rules; lender = search rules }
+    record { popped = (e, e); slots = search rules; lender = search rules }
 
 pub returns : goal.returns
 returns g c =
@@ -20,12 +20,8 @@ returns g c =
     let rest = λ (n : ℕ). get_or slots head d ∷ waiting slots n (len - 1) in
     record {
       popped = elim c.if-head-self.branch [
-        | then-head-self w ↦ pop_before slots head len d (omega arith) (omega arith) ∙ ap rest (sym w.self-is)
-        | else-head-self w ↦ pop_round slots head len d c.requires (omega arith) (omega arith) ∙ ap rest (sym w.self-is)
-      ];
-      fits = elim c.if-head-self.branch [
-        | then-head-self w ↦ (omega (arith, w.self-is), omega arith)
-        | else-head-self w ↦ (omega (arith, w.self-is), omega arith)
+        | then-head-self w ↦ pop_before slots head len d (omega arith) (omega arith) ∙ ap rest (sym w.next-is)
+        | else-head-self w ↦ pop_round slots head len d c.args.self.now.fits (omega arith) (omega arith) ∙ ap rest (sym w.next-is)
       ];
       slots = search rules;
       lender = search rules;
