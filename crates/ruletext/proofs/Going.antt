@@ -1,6 +1,7 @@
 -- One more line: the tables then, and the rule that the lines state so far.
-use Rattle.std.proofs.Common.{◌≡◌, ℕ, ◌<◌, ◌≤◌, Bool, not, ◌||◌, List, [], ◌∷◌, ◌++◌, None, sym, refl, ap, ◌∙◌, subst, ⊎_elim, arith}
+use Rattle.std.proofs.Common.{◌≡◌, ℕ, ◌<◌, ◌≤◌, Bool, true, false, eqb, ltb, not, ◌||◌, List, [], ◌∷◌, ◌++◌, None, sym, refl, ap, ◌∙◌, subst, ⊎_elim, inl, inr, arith}
 use mathlib.Core.Option.{some}
+use Rattle.std.proofs.lemmas.Bool.{eqb-true, ltb-true, ltb-false, both_ways}
 use Rattle.model.specs.Lists.{any, first, In}
 use Rattle.model.specs.Text.{Arrows, Line, n_line, t_line, TextRule, among, has_arrow, numbers, inside, state_numbers}
 use Rattle.model.specs.Reading.{SoFar, onward, states_so_far, with_arrows}
@@ -19,6 +20,10 @@ module _ (S C line : ℕ) (m next : SoFar) (l : Line) (e : onward m l ≡ some n
 
 -- THE RULE SO FAR
 
+among_in : (qs : List ℕ) (q : ℕ) → among qs q ≡ true → In qs q
+among_in [] q e = absurd (both_ways false refl e)
+among_in (p ∷ qs) q e = by_test (eqb q p) (λ t. inl (eqb-true q p t)) (λ t. inr (among_in qs q (let f : among (p ∷ qs) q ≡ among qs q = cc in sym f ∙ e)))
+
 pub any_push : {X : Type 0} (f : X → Bool) (xs : List X) (a : X) → any f (xs ++ (a ∷ [])) ≡ (any f xs || f a)
 any_push f [] a = by_test (f a) (λ t. cc) (λ t. cc)
 any_push f (x ∷ xs) a = let ih = any_push f xs a in by_test (f x) (λ t. cc) (λ t. cc)
@@ -26,14 +31,18 @@ any_push f (x ∷ xs) a = let ih = any_push f xs a in by_test (f x) (λ t. cc) (
 -- behind an r line
 pub rejecting_drafted : (S C : ℕ) (name : List ℕ) (n q : ℕ) (rejecting rejecting' : StateSet) (arrows : ArrowTable) (qs : List ℕ)
     → Clear rejecting arrows → Correct (n_line name) → 1 ≤ n → n ≤ 8 → q < n → first_outside (state_numbers n 2 qs) ≡ None
-    → ((k : ℕ) → has_state rejecting' k ≡ (has_state rejecting k || among qs k))
+    → ((k : ℕ) → k < 8 → has_state rejecting' k ≡ among qs k) → ((k : ℕ) → 8 ≤ k → has_state rejecting' k ≡ false)
     → Drafted S C name n q rejecting' arrows (record { name = name; states = n; start = q; rejecting = qs; arrows = [] })
-rejecting_drafted S C name n q rejecting rejecting' arrows qs clear good low high start ok marks =
+rejecting_drafted S C name n q rejecting rejecting' arrows qs clear good low high start ok marks none =
     record {
       names = refl;
       counts = refl;
       starts = refl;
-      rejects = λ k. marks k ∙ ap (λ z. z || among qs k) (clear.0 k);
+      rejects = λ k.
+          by_test (ltb k 8) (λ t. marks k (ltb-true k 8 t))
+          (λ t.
+          let past = ltb-false k 8 t in
+          none k past ∙ sym (by_test (among qs k) (λ e. let h = states_below n 2 qs ok k (among_in qs k e) in absurd (omega arith)) (λ e. e)));
       leads = λ q u x p hq hu hx hp. clear.1 q u x p;
       ranged =
           record {

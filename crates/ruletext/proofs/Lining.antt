@@ -2,7 +2,6 @@
 use Rattle.std.proofs.Common.{◌≡◌, ℕ, zero, suc, ◌+◌, ◌<◌, ◌≤◌, not, List, [], ◌∷◌, length, Ok, sym, refl, ap, ◌∙◌, subst, add-one, arith, length-append}
 use Rattle.std.specs.Borrow.{Bor}
 use mathlib.Core.Option.{Option, none, some}
-use Rattle.model.specs.declared.fault.WordFault.{WordFault}
 use Rattle.model.specs.declared.fault.LineFault.{LineFault}
 use Rattle.model.specs.declared.fault.LineFault.TheVariants.{Word, Order, Range}
 use Rattle.model.specs.declared.fault.ReadFault.TheVariants.{Line as OfLine}
@@ -12,7 +11,7 @@ use Rattle.model.specs.Reading.{Part, part, wrong, first_line, SoFar, nothing, o
 use Rattle.model.proofs.Reading.Parts.{line_exact}
 use Rattle.rules.specs.declared.numbers.Numbers.{Numbers}
 use Rattle.ruletext.specs.declared.so_far.Reading.{Reading as Text}
-use Rattle.ruletext.specs.Standing.{Stands, Takes, on, off, step, Taken, going, stopped, take_line}
+use Rattle.ruletext.specs.Standing.{Stands, Takes, Taken, going, stopped, take_line}
 
 -- ONE LINE
 
@@ -30,18 +29,6 @@ line_shorter bytes l j rest e =
     let b = length-append (line_bytes l) rest in
     let c = some_bytes l in
     omega arith
-
-module _ (S C line : ℕ) (m : SoFar) (bytes : List ℕ) (l : Line) (j : ℕ) (rest : List ℕ) (e : first_line bytes ≡ part l j rest) where
-  pub taken_on : (next : SoFar) → step S C line m l ≡ on next → take_line S C line m bytes ≡ going next rest
-  taken_on next d = cc
-
-  pub taken_off : (f : LineFault) → step S C line m l ≡ off f → take_line S C line m bytes ≡ stopped f
-  taken_off f d = cc
-
-pub wrong_line : (S C line : ℕ) (m : SoFar) (bytes : List ℕ) (w : WordFault) → w.line ≡ line → first_line bytes ≡ wrong w.byte → take_line S C line m bytes ≡ stopped (Word w)
-wrong_line S C line m bytes w l e =
-    let taken : take_line S C line m bytes ≡ stopped (Word (record { line = line; byte = w.byte })) = cc in
-    taken ∙ ap (λ k. stopped (Word (record { line = k; byte = w.byte }))) (sym l)
 
 -- ALL LINES
 

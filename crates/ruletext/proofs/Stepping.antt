@@ -1,11 +1,11 @@
 -- The states that words name, word by word.
-use Rattle.std.proofs.Common.{◌≡◌, ℕ, suc, ◌+◌, ◌*◌, ◌<◌, ◌≤◌, Bool, true, false, ◌||◌, cond, eqb, leb, ltb, List, [], ◌∷◌, length, get_or, drop, set, Some, None, Option, sym, refl, ap, ◌∙◌, subst, arith}
+use Rattle.std.proofs.Common.{◌≡◌, ℕ, suc, ◌+◌, ◌*◌, ◌<◌, ◌≤◌, Bool, cond, eqb, leb, ltb, List, [], ◌∷◌, length, Some, None, Option, sym, refl, ap, ◌∙◌, arith}
 use Rattle.std.specs.List.{position, position_or_len}
-use Rattle.std.proofs.lemmas.Bool.{le-ltb, lt-ltb, ltb-true, ltb-false, eqb-true, eqb-false, le-leb, leb-true, leb-false}
-use Rattle.std.proofs.lemmas.List.{get_or-set_same, get_or-set_other, drop_more}
+use Rattle.std.proofs.lemmas.Bool.{le-ltb, lt-ltb, ltb-true, ltb-false, le-leb, leb-true, leb-false}
 use Rattle.model.specs.Text.{state_numbers, among}
 use Rattle.model.proofs.Reading.Basics.{by_test}
 use Rattle.ruletext.specs.Lines.{digit_of, states_of}
+use Rattle.ruletext.specs.Tables.{names}
 use Rattle.ruletext.specs.Ranges.{first_outside}
 
 -- the first of the states lies outside, or not
@@ -56,25 +56,7 @@ module _ (n : ℕ) where
   pub outside_some : (i k : ℕ) (words : List (List ℕ)) → position too_large words ≡ Some k → first_outside (state_numbers n i (states_of words)) ≡ Some (i + 2 * k)
   outside_some i k words e = outside_position i words ∙ ap (byte_at i) e
 
--- the next word taken off
-pub word_off : (words : List (List ℕ)) (i : ℕ) → i < length words → states_of (drop i words) ≡ digit_of (get_or words i []) ∷ states_of (drop (i + 1) words)
-word_off words i h = ap states_of (drop_more words i [] h)
-
--- one state marked
-pub marked_more : (marks : List Bool) (q : ℕ) (qs : List ℕ) (p : ℕ) → q < length marks
-    → (get_or (set marks q true) p false || among qs p) ≡ (get_or marks p false || among (q ∷ qs) p)
-marked_more marks q qs p h =
-    by_test (eqb p q)
-    (λ t.
-    let e = eqb-true p q t in
-    let s : get_or (set marks q true) p false ≡ true = subst (λ z. get_or (set marks q true) z false ≡ true) (sym e) (get_or-set_same marks q true false h) in
-    let r : among (q ∷ qs) p ≡ true = cc in
-    ap (λ z. z || among qs p) s ∙ sym (ap (λ z. get_or marks p false || z) r ∙ or_true (get_or marks p false)))
-    (λ t.
-    let s = get_or-set_other marks q p true false (eqb-false p q t) in
-    let r : among (q ∷ qs) p ≡ among qs p = cc in
-    ap (λ z. z || among qs p) s ∙ ap (λ z. get_or marks p false || z) (sym r))
-  where
-    or_true : (b : Bool) → (b || true) ≡ true
-    or_true true = refl
-    or_true false = refl
+-- the words name a state exactly if it is among theirs
+pub named_among : (words : List (List ℕ)) (p : ℕ) → names words p ≡ among (states_of words) p
+named_among [] p = refl
+named_among (w ∷ ws) p = let ih = named_among ws p in by_test (eqb p (digit_of w)) (λ t. cc) (λ t. cc)

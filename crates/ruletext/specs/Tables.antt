@@ -3,6 +3,7 @@ use Rattle.std.specs.Prelude.{◌≡◌, ℕ, ◌<◌, Bool, true, false, cond, 
 use Rattle.std.specs.List.{list_any, range_with_len}
 use Rattle.model.specs.Automaton.{Automaton}
 use Rattle.model.specs.Text.{Choice, one, each}
+use Rattle.ruletext.specs.Lines.{digit_of}
 use Rattle.ruletext.specs.declared.table.StateSet.{StateSet}
 use Rattle.ruletext.specs.declared.table.BySituation.{BySituation}
 use Rattle.ruletext.specs.declared.table.ByCommand.{ByCommand}
@@ -19,6 +20,10 @@ no_situations = record { situations = [] }
 
 abbrev pub no_states : StateSet
 no_states = record { has = [] }
+
+-- a word names the state
+abbrev pub names : List (List ℕ) → ℕ → Bool
+names words p = list_any (λ word. p == digit_of word) words
 
 -- p is one of the states
 abbrev pub has_state : StateSet → ℕ → Bool

@@ -6,7 +6,7 @@ ghost use Rattle.model.specs.Reading.{SoFar as Model, nothing};
 use crate::line::{Line, first_line};
 use crate::name::Name;
 use crate::range::{States, outside, outside_arrows};
-use crate::table::Table;
+use crate::table::{StateSet, Table};
 use model::fault::LineFault;
 use rules::Numbers;
 
@@ -87,7 +87,7 @@ impl Reading {
                 byte,
             });
         }
-        self.table.rejecting.add(rejects.states);
+        self.table.rejecting = StateSet::of(rejects.states);
         self.so_far = SoFar::Full(name, states);
         Ok(())
     }

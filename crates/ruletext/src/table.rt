@@ -1,15 +1,21 @@
 //! The rejecting states and the arrows of a rule, as tables.
 
-ghost use Rattle.std.specs.Prelude.{◌≡◌, ℕ, ◌<◌, ◌≤◌, true, false, ◌&&◌, ◌||◌, nat_lt};
-ghost use Rattle.model.specs.Lists.{In};
+ghost use Rattle.std.specs.Prelude.{◌≡◌, ℕ, ◌<◌, ◌≤◌, true, false, ◌&&◌, ◌||◌, false, nat_lt, slice_index_or};
 ghost use Rattle.model.specs.Text.{among, has_arrow};
 ghost use Rattle.ruletext.specs.Lines.{states_in, picked, arrows_of};
 ghost use Rattle.ruletext.specs.Ranges.{below};
-ghost use Rattle.ruletext.specs.Tables.{has_state, in_situation, by_command, arrow, taken, Adds};
+ghost use Rattle.ruletext.specs.Tables.{names, has_state, in_situation, by_command, arrow, taken, Adds};
 
 use crate::line::{Arrows, Choice};
 use crate::range::value;
 use rules::Numbers;
+
+// Whether the words name the state.
+fn names(words: &[[u8; 2]], state: usize) -> bool
+    ensures { result ≡ names words.now state }
+{
+    words.iter().any(|word| state == value(word[1]) as usize)
+}
 
 /// Some of the states.
 #[derive(Clone, Copy)]
@@ -18,6 +24,16 @@ pub struct StateSet {
 }
 
 impl StateSet {
+    /// The states that the words name.
+    pub(crate) fn of(words: &[[u8; 2]]) -> StateSet
+        ensures named { (p : ℕ) → p < 8 → has_state result p ≡ names words.now p }
+        ensures none { (p : ℕ) → 8 ≤ p → has_state result p ≡ false }
+    {
+        StateSet {
+            has: std::array::from_fn(|p| names(words, p)),
+        }
+    }
+
     /// Whether a state is one of them.
     pub(crate) fn contains(&self, state: u8) -> bool
         requires { state < 8 }
@@ -26,13 +42,12 @@ impl StateSet {
         self.has[state as usize]
     }
 
-    /// Adds the states that the words name.
-    pub(crate) fn add(&mut self, words: &[[u8; 2]])
-        requires { (q : ℕ) → In (states_in words) q → q < 8 }
-        ensures { (p : ℕ) → has_state self.new p ≡ (has_state self.old p || among (states_in words.entry) p) }
+    // Those of either.
+    fn union(self, other: StateSet) -> StateSet
+        ensures { (p : ℕ) → p < 8 → has_state result p ≡ (has_state self p || has_state other p) }
     {
-        for word in words {
-            self.has[value(word[1]) as usize] = true;
+        StateSet {
+            has: std::array::from_fn(|p| self.has[p] | other.has[p]),
         }
     }
 }
@@ -44,14 +59,14 @@ pub struct BySituation {
 }
 
 impl BySituation {
-    // Adds the states that the words name, in each situation that is chosen.
-    fn add(&mut self, chosen: Choice, situations: u8, words: &[[u8; 2]])
-        requires { (situations ≤ 8) × ((q : ℕ) → In (states_in words) q → q < 8) }
-        ensures { (x p : ℕ) → x < 8 → in_situation self.new x p ≡ (in_situation self.old x p || ((nat_lt x situations && taken (picked chosen) x) && among (states_in words.entry) p)) }
+    // Adds the states, in each situation that is chosen.
+    fn add(&mut self, chosen: Choice, numbers: Numbers, states: StateSet)
+        ensures { (x p : ℕ) → x < 8 → p < 8 → in_situation self.new x p ≡ (in_situation self.old x p || ((nat_lt x numbers.situations && taken (picked chosen) x) && has_state states p)) }
     {
-        for x in 0..situations {
+        for x in 0..numbers.situations {
             if chosen.takes(x) {
-                self.situations[x as usize].add(words);
+                let followers = &mut self.situations[x as usize];
+                *followers = followers.union(states);
             }
         }
     }
@@ -64,14 +79,13 @@ pub struct ByCommand {
 }
 
 impl ByCommand {
-    // Adds the states that follow by a line, under each command and in each situation that it names.
-    fn add(&mut self, line: Arrows, numbers: Numbers)
-        requires { (q : ℕ) → In (states_in line.to) q → q < 8 }
-        ensures { (u x p : ℕ) → u < 8 → x < 8 → by_command self.new u x p ≡ (by_command self.old u x p || ((nat_lt u numbers.commands && taken (picked line.entry.command) u) && ((nat_lt x numbers.situations && taken (picked line.entry.situation) x) && among (states_in line.entry.to) p))) }
+    // Adds the states, under each command and in each situation that the line names.
+    fn add(&mut self, line: Arrows, numbers: Numbers, states: StateSet)
+        ensures { (u x p : ℕ) → u < 8 → x < 8 → p < 8 → by_command self.new u x p ≡ (by_command self.old u x p || ((nat_lt u numbers.commands && taken (picked line.entry.command) u) && ((nat_lt x numbers.situations && taken (picked line.entry.situation) x) && has_state states p))) }
     {
         for u in 0..numbers.commands {
             if line.command.takes(u) {
-                self.commands[u as usize].add(line.situation, numbers.situations, line.to);
+                self.commands[u as usize].add(line.situation, numbers, states);
             }
         }
     }
@@ -113,11 +127,11 @@ impl Table {
 
     /// Adds the line's arrows: under each command and in each situation that it names, to all its followers.
     pub fn connect(&mut self, line: Arrows, numbers: Numbers)
-        requires fits { (line.from < 8) × ((q : ℕ) → In (states_in line.to) q → q < 8) }
+        requires fits { line.from < 8 }
         requires named { (below numbers.commands (picked line.command) ≡ true) × (below numbers.situations (picked line.situation) ≡ true) }
         ensures added { Adds self.old.arrows self.new.arrows (λ q u x p. has_arrow numbers.situations numbers.commands q u x p (arrows_of line.entry)) }
         ensures same { self.new.rejecting ≡ self.old.rejecting }
     {
-        self.arrows[line.from as usize].add(line, numbers);
+        self.arrows[line.from as usize].add(line, numbers, StateSet::of(line.to));
     }
 }

@@ -15,7 +15,7 @@ connect-requires-clause-fits c =
     let states = c.args.states in
     let a = arrows_of c.in-Arrows.arrows in
     let l = arrows_below given.situations given.commands states.count a (sym c.in_default-outside_arrows.ensures) in
-    (omega (arith, l.from), λ p i. let k = l.to p i in omega arith)
+    omega (arith, l.from)
 
 pub returns-clause-steps : goal.returns-clause-steps
 returns-clause-steps c =

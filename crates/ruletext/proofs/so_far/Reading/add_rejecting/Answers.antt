@@ -1,20 +1,13 @@
-use Rattle.std.proofs.Common.{[], sym, refl, ap, ◌∙◌, arith}
+use Rattle.std.proofs.Common.{[], sym, refl, ap, ◌∙◌}
 use Rattle.model.specs.Text.{TextRule, n_line, r_line}
 use Rattle.model.specs.Reading.{sized, full}
 use Rattle.model.proofs.Reading.Correct.{correct_exact}
 use Rattle.ruletext.specs.Names.{spelled}
 use Rattle.ruletext.specs.Lines.{line_of, states_in}
 use Rattle.ruletext.specs.Standing.{step}
-use Rattle.ruletext.proofs.Holding.{states_below}
+use Rattle.ruletext.proofs.Stepping.{named_among}
 use Rattle.ruletext.proofs.Going.{step_on, rejecting_drafted}
 use Rattle.ruletext.proofs.so_far.Reading.add_rejecting.Goals as goal
-
-pub add-requires : goal.add-requires
-add-requires c =
-    λ q i.
-    let states = c.args.states in
-    let h = states_below states.count 2 (states_in c.in-Rejects.rejects.states) (sym c.in_default-outside.ensures) q i in
-    omega arith
 
 pub returns-clause-steps : goal.returns-clause-steps
 returns-clause-steps c =
@@ -35,7 +28,7 @@ returns-clause-steps c =
       (
         r,
         refl,
-        rejecting_drafted S C name n q before.table.rejecting c.add.new.self before.table.arrows qs standing.1 ((correct_exact (n_line name)).0 c.args.name.good)
-            states.counted.0 states.counted.1 states.begins none c.add.ensures,
+        rejecting_drafted S C name n q before.table.rejecting c.of-self.result before.table.arrows qs standing.1 ((correct_exact (n_line name)).0 c.args.name.good)
+            states.counted.0 states.counted.1 states.begins none (λ p h. c.of-self.ensures.named p h ∙ named_among c.in-Rejects.rejects.states.now p) c.of-self.ensures.none,
       ),
     )
