@@ -1,7 +1,7 @@
 use Rattle.std.proofs.Common.{sym, ◌∙◌}
 use Rattle.ruletext.proofs.Meeting.{as_led, follower_there, not_led, not_below}
-use Rattle.ruletext.proofs.reach.StatesGraph.successor.Goals as goal
-use Rattle.ruletext.proofs.reach.StatesGraph.successor.Goals.{else-node-lt8-via-then-node-lt8+else-leads, else-node-lt8-via-else-node-lt8}
+use Rattle.ruletext.proofs.reach.StatesGraph8.successor.Goals as goal
+use Rattle.ruletext.proofs.reach.StatesGraph8.successor.Goals.{else-node-lt8-via-then-node-lt8+else-leads, else-node-lt8-via-else-node-lt8}
 
 pub returns-then-leads : goal.returns-then-leads
 returns-then-leads c =
