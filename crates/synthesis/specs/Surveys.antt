@@ -1,5 +1,5 @@
 -- What the search among positions finds, and which of them are safe.
-use Rattle.std.specs.Prelude.{◌≡◌, ℕ, ◌<◌, ◌≤◌, Bool, true, false, cond, ◌&&◌, List, [], map, length, take, Some, None, Option, nat_lt, slice_index_or}
+use Rattle.std.specs.Prelude.{◌≡◌, ℕ, ◌<◌, ◌≤◌, Bool, true, false, cond, ◌&&◌, List, [], map, length, take, Some, None, Option, nat_lt, slice_index_or, MatchOption}
 use Rattle.std.proofs.Math.Option.{none, some}
 use Rattle.model.specs.Automaton.{Automaton}
 use Rattle.model.specs.Positions.{step, fits, reach, member, safe_part}
@@ -17,8 +17,7 @@ shown A n slots = map (view A.states) (take n slots)
 
 -- a link leads to the place of the step Q in the list, or Q is over c
 abbrev pub Leads : ℕ → List (List ℕ) → List ℕ → Option ℕ → Type 0
-Leads c L Q None = fits c Q ≡ false
-Leads c L Q (Some l) = (fits c Q ≡ true) × (l < length L) × (slice_index_or L l [] ≡ Q)
+Leads c L Q link = MatchOption link (fits c Q ≡ false) (λ l. (fits c Q ≡ true) × (l < length L) × (slice_index_or L l [] ≡ Q))
 
 -- each link of the positions leads to its step
 abbrev pub Stepping : Automaton → ℕ → List (List ℕ) → List (List (Option ℕ)) → Type 0

@@ -14,6 +14,7 @@ pub mod solving;
 pub mod state;
 pub mod stepping;
 pub mod storing;
+pub mod survey;
 pub mod surveying;
 pub mod table;
 #[cfg(test)]

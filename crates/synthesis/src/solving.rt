@@ -8,13 +8,12 @@ ghost use Rattle.synthesis.specs.Answers.{Answered};
 
 use crate::arrows::Arrows;
 use crate::gathering::gather;
-use crate::numbering::control;
 use crate::position::Position;
 use crate::pruning::is_safe;
 use crate::solved::{Found, Unsolved};
 use crate::state::State;
-use crate::storing::store;
-use crate::surveying::survey;
+use crate::survey::Survey;
+use crate::surveying::look;
 use crate::workspace::Workspace;
 use rules::Rule;
 
@@ -38,24 +37,20 @@ fn solve_table(
     ensures { Answered (automaton arrows.now) (length met.old) limit result states.new }
 {
     for c in 0..limit + 1 {
-        let Some(len) = survey(arrows, c, met, waiting, links, safe) else {
+        let Some(len) = look(arrows, c, met, waiting, links, safe) else {
             return Err(Unsolved::Crowded);
         };
-        if len > 0 && is_safe(safe, 0) {
-            let count = control(
-                arrows,
-                c,
-                met,
-                len,
-                links,
-                safe,
-                places,
-                waiting_places,
-                nexts,
-            );
-            store(
-                arrows, c, met, len, links, safe, places, nexts, count, states,
-            );
+        let survey = Survey {
+            arrows,
+            c,
+            met: &met[0..len],
+            links: &*links,
+            safe: &safe[0..len],
+            room: met.len(),
+        };
+        if is_safe(survey.safe, 0) {
+            let count = survey.control(places, waiting_places, nexts);
+            survey.store(places, nexts, count, states);
             return Ok(Found {
                 count: c,
                 states: count,

@@ -4,41 +4,14 @@ ghost use Rattle.std.specs.Prelude.{◌≡◌, ℕ, ◌+◌, ◌*◌, ◌<◌, �
 ghost use Rattle.model.specs.Positions.{command_at, safe_part};
 ghost use Rattle.synthesis.specs.Tables.{automaton};
 ghost use Rattle.synthesis.specs.Safety.{flag};
-ghost use Rattle.synthesis.specs.Surveys.{shown, Surveyed};
+ghost use Rattle.synthesis.specs.Surveys.{shown};
 ghost use Rattle.synthesis.specs.Control.{Controlled};
 ghost use Rattle.synthesis.specs.Answers.{StandsAt, row_of, position_of};
 
-use crate::arrows::Arrows;
 use crate::graphs::Chosen;
-use crate::position::Position;
 use crate::state::State;
+use crate::survey::Survey;
 use std::array;
-
-/// The lowest command that stays in the safe set, at a safe place.
-fn command_at(
-    arrows: &Arrows,
-    c: u8,
-    met: &[Position],
-    len: usize,
-    links: &[[Option<u16>; 64]],
-    safe: &[bool],
-    place: usize,
-) -> u8
-    requires surveyed { Surveyed (automaton arrows.now) c (length met.now) (Some len) met.now links.now safe.now }
-    requires place { (place < len) × (flag safe.now place ≡ true) }
-    requires room { (length met.now ≤ 65535) × ((len ≤ length met.now) × ((len ≤ length safe.now) × (len ≤ length links.now))) }
-    ensures { result ≡ command_at (automaton arrows.now) (safe_part (automaton arrows.now) (shown (automaton arrows.now) len met.now)) (slice_index_or (shown (automaton arrows.now) len met.now) place []) }
-{
-    let chosen = Chosen {
-        numbers: arrows.numbers,
-        links,
-        safe: &safe[0..len],
-    };
-    match chosen.lowest_command(place) {
-        Some(command) => command,
-        None => unreachable(),
-    }
-}
 
 /// The next states of a row of links, 0 where there is none.
 fn next_states(row: &[Option<u16>; 8]) -> [u16; 8]
@@ -47,31 +20,43 @@ fn next_states(row: &[Option<u16>; 8]) -> [u16; 8]
     array::from_fn(|situation| row[situation].unwrap_or(0))
 }
 
-/// Writes the states of the controller that the survey and the table of next states make.
-pub fn store(
-    arrows: &Arrows,
-    c: u8,
-    met: &[Position],
-    len: usize,
-    links: &[[Option<u16>; 64]],
-    safe: &[bool],
-    places: &[u16],
-    nexts: &[[Option<u16>; 8]],
-    count: usize,
-    states: &mut [State],
-)
-    requires surveyed { Surveyed (automaton arrows.now) c (length met.now) (Some len) met.now links.now safe.now }
-    requires controlled { Controlled (automaton arrows.now) met.now len safe.now count places.now nexts.now }
-    requires room { (length met.now ≤ 65535) × ((len ≤ length met.now) × ((len ≤ length safe.now) × ((len ≤ length places.now) × (len ≤ length states.old)))) }
-    requires rows { (len ≤ length links.now) × (len ≤ length nexts.now) }
-    ensures { (s : ℕ) (d : State) → s < count → StandsAt (automaton arrows.now) len met.now places.now nexts.now s (slice_index_or states.new s d) }
-{
-    for state in 0..count {
-        let place = places[state] as usize;
-        states[state] = State {
-            command: command_at(arrows, c, met, len, links, safe, place),
-            nexts: next_states(&nexts[state]),
-            position: met[place],
+impl Survey<'_> {
+    /// The lowest command that stays in the safe set, at a safe place.
+    fn command_at(&self, place: usize) -> u8
+        requires { flag self.now.safe.now place ≡ true }
+        ensures { result ≡ command_at (automaton self.now.arrows.now) (safe_part (automaton self.now.arrows.now) (shown (automaton self.now.arrows.now) (length self.now.met.now) self.now.met.now)) (slice_index_or (shown (automaton self.now.arrows.now) (length self.now.met.now) self.now.met.now) place []) }
+    {
+        let chosen = Chosen {
+            numbers: self.arrows.numbers,
+            links: self.links,
+            safe: self.safe,
         };
+        match chosen.lowest_command(place) {
+            Some(command) => command,
+            None => unreachable(),
+        }
+    }
+
+    /// Writes the states of the controller that the survey and the table of next states make.
+    pub fn store(
+        &self,
+        places: &[u16],
+        nexts: &[[Option<u16>; 8]],
+        count: usize,
+        states: &mut [State],
+    )
+        requires controlled { Controlled (automaton self.now.arrows.now) self.now.met.now (length self.now.met.now) self.now.safe.now count places.now nexts.now }
+        requires room { (length self.now.met.now ≤ length places.now) × ((length self.now.met.now ≤ length nexts.now) × (length self.now.met.now ≤ length states.old)) }
+        ensures { (s : ℕ) (d : State) → s < count → StandsAt (automaton self.now.arrows.now) (length self.now.met.now) self.now.met.now places.now nexts.now s (slice_index_or states.new s d) }
+    {
+        // By index: an iterator that writes the states beside two others leaves nothing known of them.
+        for state in 0..count {
+            let place = places[state] as usize;
+            states[state] = State {
+                command: self.command_at(place),
+                nexts: next_states(&nexts[state]),
+                position: self.met[place],
+            };
+        }
     }
 }

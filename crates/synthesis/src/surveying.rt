@@ -68,7 +68,7 @@ fn reach(
 }
 
 /// Meets the positions within the bound c, links each to its steps, and flags those that are safe. None, if there are more than slots.
-pub fn survey(
+pub fn look(
     arrows: &Arrows,
     c: u8,
     met: &mut [Position],

@@ -1,20 +1,22 @@
-use Rattle.std.proofs.Common.{◌≡◌, ◌≤◌, true, false, length, Some, sym, refl, ◌∙◌, subst, arith}
+use Rattle.std.proofs.Common.{◌≡◌, ◌-◌, ◌<◌, ◌≤◌, true, false, length, take, map, Some, sym, refl, ap, ◌∙◌, subst, inl, inr, arith, length-take}
 use mathlib.Core.Option.{none}
-use Rattle.model.specs.Positions.{reach, member, safe_part, start_position, found_in}
-use Rattle.synthesis.specs.Tables.{automaton}
+use Rattle.std.proofs.lemmas.Bool.{cases_lt}
+use Rattle.std.proofs.lemmas.List.{take_all, get_or-take}
+use Rattle.model.specs.Positions.{reach, member, safe_part, start_position, found, found_in}
+use Rattle.synthesis.specs.Tables.{automaton, view}
 use Rattle.synthesis.specs.Surveys.{shown, Surveyed}
+use Rattle.synthesis.proofs.Pruned.{flag_inside}
 use Rattle.synthesis.proofs.Tries.{try_begins, try_crowded, try_found, try_next, try_ends, start_told, start_lost}
 use Rattle.synthesis.proofs.Stored.{stores}
 use Rattle.synthesis.proofs.solving.solve_table.Goals as goal
-use Rattle.synthesis.proofs.solving.solve_table.Goals.{else-len-gt0-via-then-len-gt0+else-is_safe, else-len-gt0-via-else-len-gt0}
 
 pub loop-c-init : goal.loop-c-init
-loop-c-init c = try_begins (automaton c.args.arrows.now) (length c.args.met.now) c.args.limit
+loop-c-init c = (try_begins (automaton c.args.arrows.now) (length c.args.met.now) c.args.limit, refl, refl)
 
 pub returns-in_default : goal.returns-in_default
 returns-in_default c =
     let A = automaton c.args.arrows.now in
-    sym c.loop-c.invariant ∙ try_crowded A (length c.args.met.now) c.args.limit c.loop-c.c (omega arith) (subst (λ r. reach A c.loop-c.c r ≡ none) c.loop-c.auto.met c.in_default.ensures)
+    sym c.loop-c.invariant.0 ∙ try_crowded A (length c.args.met.now) c.args.limit c.loop-c.c (omega arith) (subst (λ r. reach A c.loop-c.c r ≡ none) c.loop-c.invariant.1 c.in_default.ensures)
 
 pub returns-then-is_safe : goal.returns-then-is_safe
 returns-then-is_safe c =
@@ -22,18 +24,24 @@ returns-then-is_safe c =
     let room = length c.args.met.now in
     let at = c.loop-c.c in
     let len = c.in-Some.len in
-    let met = c.survey.new.met in
-    let links = c.survey.new.links in
-    let safe = c.survey.new.safe in
-    let s : Surveyed A at room (Some len) met links safe = subst (λ r. Surveyed A at r (Some len) met links safe) c.loop-c.auto.met c.in-Some.ensures in
+    let met = c.look.new.met in
+    let links = c.look.new.links in
+    let safe = c.look.new.safe in
+    let slots = take (len - 0) met in
+    let n = length slots in
+    let s : Surveyed A at room (Some len) met links safe = subst (λ r. Surveyed A at r (Some len) met links safe) c.loop-c.invariant.1 c.in-Some.ensures in
     let within : len ≤ room = s.0.0 in
+    let some : 0 < len = let i = flag_inside (take (len - 0) safe) 0 (sym c.if-is_safe.ensures) in omega (arith, i, length-take (len - 0) safe) in
     let L = shown A len met in
+    let z : len - 0 ≡ len = omega arith in
+    let e : shown A n slots ≡ L = ap (map (view A.states)) (take_all n slots (omega arith) ∙ ap (λ k. take k met) z) in
     let m : member (safe_part A L) (start_position A) ≡ true =
-    sym (start_told A room at len met links safe (omega (arith, within, c.survey.auto.met, c.loop-c.auto.met)) s (omega arith)) ∙ sym c.if-is_safe.ensures in (
-      found_in A at (safe_part A L),
-      sym c.loop-c.invariant ∙ try_found A room c.args.limit at L (omega arith) s.0.1 m,
-      stores A at len met safe c.control-count.result c.control-count.new.places c.control-count.new.nexts c.args.arrows.now.numbers.good.1 c.control-count.ensures
-          (omega (arith, within, c.control-count.auto.places, c.loop-c.auto.places)) c.store.new.states (omega (arith, within, c.store.auto.states, c.loop-c.auto.states)) c.store.ensures
+    sym (start_told A room at len met links safe (omega (arith, within, c.look.auto.met, c.loop-c.invariant.1)) s some) ∙ sym (get_or-take (len - 0) safe 0 false (omega (arith, some))) ∙ sym c.if-is_safe.ensures in
+    let few : n ≤ room = omega (arith, within, length-take (len - 0) met) in (
+      found_in A at (safe_part A (shown A n slots)),
+      sym c.loop-c.invariant.0 ∙ try_found A room c.args.limit at L (omega arith) s.0.1 m ∙ ap (λ v. found (found_in A at (safe_part A v))) (sym e),
+      stores A at n slots (take (len - 0) safe) c.control-count.result c.control-count.new.places c.control-count.new.nexts c.args.arrows.now.numbers.good.1 c.control-count.ensures
+          (omega (arith, few, c.control-count.auto.places, c.loop-c.auto.places, c.requires.state_room.0)) c.store.new.states (omega (arith, few, c.store.auto.states, c.loop-c.auto.states, c.requires.state_room.1.1)) c.store.ensures
           (record { count = at; states = c.control-count.result }) refl refl,
     )
 
@@ -43,20 +51,20 @@ loop-c-preserved c =
     let room = length c.args.met.now in
     let at = c.loop-c.c in
     let len = c.in-Some.len in
-    let met = c.survey.new.met in
-    let links = c.survey.new.links in
-    let safe = c.survey.new.safe in
-    let s : Surveyed A at room (Some len) met links safe = subst (λ r. Surveyed A at r (Some len) met links safe) c.loop-c.auto.met c.in-Some.ensures in
+    let met = c.look.new.met in
+    let links = c.look.new.links in
+    let safe = c.look.new.safe in
+    let s : Surveyed A at room (Some len) met links safe = subst (λ r. Surveyed A at r (Some len) met links safe) c.loop-c.invariant.1 c.in-Some.ensures in
     let within : len ≤ room = s.0.0 in
     let m : member (safe_part A (shown A len met)) (start_position A) ≡ false =
-    elim c.else-len-gt0.branch [
-      | else-len-gt0-via-then-len-gt0+else-is_safe w ↦
-          sym (start_told A room at len met links safe (omega (arith, within, c.survey.auto.met, c.loop-c.auto.met)) s (omega (arith, w.if-len-gt0.true))) ∙ sym w.if-is_safe.ensures
-      | else-len-gt0-via-else-len-gt0 w ↦
-          (let z : 0 ≡ len = omega (arith, w.if-len-gt0.false) in
+    elim (cases_lt 0 len) [
+      | inl some ↦
+          sym (start_told A room at len met links safe (omega (arith, within, c.look.auto.met, c.loop-c.invariant.1)) s some) ∙ sym (get_or-take (len - 0) safe 0 false (omega (arith, some))) ∙ sym c.if-is_safe.ensures
+      | inr h ↦
+          (let z : 0 ≡ len = omega (arith, h) in
           subst (λ n. member (safe_part A (shown A n met)) (start_position A) ≡ false) z (start_lost A room at met links safe))
     ] in
-    try_next A room c.args.limit at (shown A len met) (omega arith) s.0.1 m ∙ c.loop-c.invariant
+    (try_next A room c.args.limit at (shown A len met) (omega arith) s.0.1 m ∙ c.loop-c.invariant.0, c.look.auto.met ∙ c.loop-c.invariant.1, c.look.auto.safe ∙ c.loop-c.invariant.2)
 
 pub returns : goal.returns
-returns c = sym c.loop-c.invariant ∙ try_ends (automaton c.args.arrows.now) (length c.args.met.now) c.args.limit c.loop-c.c (omega arith)
+returns c = sym c.loop-c.invariant.0 ∙ try_ends (automaton c.args.arrows.now) (length c.args.met.now) c.args.limit c.loop-c.c (omega arith)

@@ -1,18 +1,37 @@
-use Rattle.std.proofs.Common.{◌≡◌, ℕ, ◌-◌, List, map, length, get_or, take, vec_items, sym, refl, ap, ◌∙◌, subst, arith}
-use mathlib.Core.Option.{some}
+use Rattle.std.proofs.Common.{Ok, Err, Result, ◌≡◌, ℕ, ◌-◌, ◌≤◌, List, map, length, get_or, take, vec_items, sym, refl, ap, ◌∙◌, subst, arith}
+use mathlib.Core.Option.{none, some}
+use Rattle.std.specs.List.{AllByRecursion as All}
 use Rattle.model.specs.Automaton.{no_row}
 use Rattle.model.specs.Rules.{together}
 use Rattle.model.specs.Positions.{Found, Solution, found, none_found, too_crowded}
 use Rattle.model.specs.Positions as Positions
-use Rattle.model.specs.Sheet.{rules, Outcome, answers, with_stored, count, row_in}
+use Rattle.model.specs.Sheet.{Sheet, rules, solve_on, Outcome, answers, refused, with_stored, count, row_in}
 use Rattle.ruletext.specs.declared.rule.ReadRule.{ReadRule}
 use Rattle.synthesis.specs.declared.state.State.{State}
-use Rattle.synthesis.specs.Tables.{automaton}
-use Rattle.synthesis.specs.Answers.{Stores, row_of}
+use Rattle.synthesis.specs.Tables.{automaton, Alike}
+use Rattle.model.specs.declared.refusal.Refusal.{Refusal}
+use Rattle.std.specs.Result.{IsErr, IsErrAnd}
+use Rattle.synthesis.specs.declared.solved.Unsolved.{Unsolved}
+use Rattle.synthesis.specs.declared.solved.Unsolved.TheVariants.{NoneFound, Crowded}
+use Rattle.synthesis.specs.Refused.{refused_by}
+use Rattle.synthesis.specs.Answers.{Stores, Answered, row_of}
+use Rattle.sheet.specs.declared.page.Page.{Page}
+use Rattle.sheet.specs.declared.stored.Solution.{Solution as Told}
+use Rattle.sheet.specs.Shows.{Shows, solution}
 use Rattle.sheet.specs.Added.{meaning}
-use Rattle.sheet.proofs.Paging.{outcome, rules_agree}
+use Rattle.sheet.proofs.Paging.{outcome, all_alike, rules_agree}
 use Rattle.sheet.proofs.Keeping.{stores_alike, solved_as}
 use Rattle.sheet.proofs.page.Page.solve.Goals as goal
+
+-- a solve that finds nothing leaves no controller, and is refused for that reason
+unsolved_as : (p : Page) (s : Sheet) (shows : Shows p s) (e : Unsolved) (states : List State) → Answered (together (automaton p.table.arrows) (map meaning (vec_items p.added))) p.capacity p.limit (Err e) states
+    → solve_on s ≡ answers (with_stored s none) (refused (refused_by e))
+unsolved_as p s shows NoneFound states a = solved_as p s shows none_found a
+unsolved_as p s shows Crowded states a = solved_as p s shows too_crowded a
+
+refusal_is : (s : Sheet) (e : Unsolved) (r : Result Told Refusal) → IsErr r × IsErrAnd r (λ x. x ≡ refused_by e) → answers (with_stored s none) (solution r) ≡ answers (with_stored s none) (refused (refused_by e))
+refusal_is s e (Ok v) h = absurd h.1
+refusal_is s e (Err x) h = ap {B = Outcome} (λ x. answers (with_stored s none) (refused x)) h.1
 
 pub returns : goal.returns
 returns c s shows =
@@ -47,4 +66,6 @@ returns c s shows =
 pub returns-in_err-found : goal.returns-in_err-found
 returns-in_err-found c s shows =
     let p = c.args.self.now in
-    ?
+    let a = subst (λ (w : List ReadRule). Answered (together (automaton p.table.arrows) (map meaning w)) p.capacity p.limit (Err c.in_err-found.field-0.0) (vec_items c.solve.new.workspace.states)) c.as_slice.ensures.value c.in_err-found.ensures in
+    outcome _ _ _ _ (unsolved_as p s shows c.in_err-found.field-0.0 (vec_items c.solve.new.workspace.states) a ∙ sym (refusal_is s c.in_err-found.field-0.0 c.from_residual.result c.from_residual.ensures))
+    (record { house = shows.house; situations = shows.situations; commands = shows.commands; capacity = shows.capacity; added = shows.added; limit = shows.limit; stored = refl })

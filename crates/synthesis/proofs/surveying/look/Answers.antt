@@ -3,7 +3,7 @@ use borrow.Rule.Slice.PartMut.{post_of}
 use Rattle.std.proofs.lemmas.List.{length-take-le}
 use Rattle.synthesis.specs.Tables.{automaton}
 use Rattle.synthesis.proofs.Flags.{survey_flags}
-use Rattle.synthesis.proofs.surveying.survey.Goals as goal
+use Rattle.synthesis.proofs.surveying.look.Goals as goal
 
 pub returns : goal.returns
 returns c =

@@ -1,4 +1,4 @@
-use Rattle.std.proofs.Common.{◌≡◌, ◌<◌, [], get_or, take, None, sym, ap, ◌∙◌, arith}
+use Rattle.std.proofs.Common.{◌≡◌, ◌<◌, [], get_or, length, take, None, sym, ap, ◌∙◌, arith}
 use Rattle.std.specs.Option.{unwrap_or}
 use Rattle.std.proofs.lemmas.List.{length-take-le, get_or-map, get_or-take}
 use Rattle.std.proofs.lemmas.List.FromFn.{fill_by_all}
@@ -7,13 +7,13 @@ use Rattle.synthesis.specs.Tables.{automaton, view}
 use Rattle.synthesis.specs.Surveys.{shown}
 use Rattle.synthesis.specs.Answers.{StandsAt}
 use Rattle.synthesis.proofs.Marks.{position, place_more}
-use Rattle.synthesis.proofs.storing.store.Goals as goal
+use Rattle.synthesis.proofs.survey.Survey.store.Goals as goal
 
 pub loop-state-preserved : goal.loop-state-preserved
 loop-state-preserved c k d lt =
-    let A = automaton c.args.arrows.now in
-    let len = c.args.len in
-    let met = c.args.met.now in
+    let A = automaton c.args.self.now.arrows.now in
+    let met = c.args.self.now.met.now in
+    let len = length met in
     let places = c.args.places.now in
     let nexts = c.args.nexts.now in
     let i = c.loop-state.state in
