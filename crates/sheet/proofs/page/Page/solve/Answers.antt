@@ -1,6 +1,5 @@
-use Rattle.std.proofs.Common.{Ok, Err, Result, ◌≡◌, ℕ, ◌-◌, ◌≤◌, List, map, length, get_or, take, vec_items, sym, refl, ap, ◌∙◌, subst, arith}
+use Rattle.std.proofs.Common.{Ok, Err, Result, ◌≡◌, ℕ, ◌-◌, List, map, length, get_or, take, vec_items, sym, refl, ap, ◌∙◌, subst, arith}
 use mathlib.Core.Option.{none, some}
-use Rattle.std.specs.List.{AllByRecursion as All}
 use Rattle.model.specs.Automaton.{no_row}
 use Rattle.model.specs.Rules.{together}
 use Rattle.model.specs.Positions.{Found, Solution, found, none_found, too_crowded}
@@ -8,7 +7,7 @@ use Rattle.model.specs.Positions as Positions
 use Rattle.model.specs.Sheet.{Sheet, rules, solve_on, Outcome, answers, refused, with_stored, count, row_in}
 use Rattle.ruletext.specs.declared.rule.ReadRule.{ReadRule}
 use Rattle.synthesis.specs.declared.state.State.{State}
-use Rattle.synthesis.specs.Tables.{automaton, Alike}
+use Rattle.synthesis.specs.Tables.{automaton}
 use Rattle.model.specs.declared.refusal.Refusal.{Refusal}
 use Rattle.std.specs.Result.{IsErr, IsErrAnd}
 use Rattle.synthesis.specs.declared.solved.Unsolved.{Unsolved}
@@ -19,7 +18,7 @@ use Rattle.sheet.specs.declared.page.Page.{Page}
 use Rattle.sheet.specs.declared.stored.Solution.{Solution as Told}
 use Rattle.sheet.specs.Shows.{Shows, solution}
 use Rattle.sheet.specs.Added.{meaning}
-use Rattle.sheet.proofs.Paging.{outcome, all_alike, rules_agree}
+use Rattle.sheet.proofs.Paging.{outcome, rules_agree}
 use Rattle.sheet.proofs.Keeping.{stores_alike, solved_as}
 use Rattle.sheet.proofs.page.Page.solve.Goals as goal
 
