@@ -17,7 +17,7 @@ pub fn value(digit: u8) -> u8
 }
 
 // The place of the first word whose state is not below `states`, if there is one.
-fn first_outside(words: &[[u8; 2]], states: u8) -> Option<usize>
+fn first_too_large(words: &[[u8; 2]], states: u8) -> Option<usize>
     ensures { result ≡ position (λ word. nat_le states (digit_of word)) words.now }
 {
     words.iter().position(|word| value(word[1]) >= states)
@@ -28,7 +28,7 @@ pub fn outside(words: &[[u8; 2]], states: u8, at: usize) -> Option<usize>
     requires { at + 2 * length words.now < 2 ^ 64 }
     ensures { result ≡ first_outside (state_numbers states at (states_in words.entry)) }
 {
-    let word = first_outside(words, states)?;
+    let word = first_too_large(words, states)?;
     Some(at + 2 * word)
 }
 

@@ -1,6 +1,6 @@
 //! The rejecting states and the arrows of a rule, as tables.
 
-ghost use Rattle.std.specs.Prelude.{◌≡◌, ℕ, ◌<◌, ◌≤◌, true, false, ◌&&◌, ◌||◌, false, nat_lt, slice_index_or};
+ghost use Rattle.std.specs.Prelude.{◌≡◌, ℕ, ◌<◌, ◌≤◌, true, false, ◌&&◌, ◌||◌, nat_lt};
 ghost use Rattle.model.specs.Text.{among, has_arrow};
 ghost use Rattle.ruletext.specs.Lines.{states_in, picked, arrows_of};
 ghost use Rattle.ruletext.specs.Ranges.{below};
