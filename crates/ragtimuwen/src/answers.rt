@@ -1,8 +1,10 @@
-//! Answers the lines of a script.
+//! Answers the lines of a script. No clause can say what a file holds, so what is written of one is not stated, nor what is written of a
+//! whole line.
 
-ghost use Rattle.std.specs.Prelude.{◌≡◌, ◌<◌, ◌++◌, IfOk, IfErr, OnOk, codes};
+ghost use Rattle.std.specs.Prelude.{◌≡◌, ◌<◌, ◌++◌, Some, IfSome, IfOk, IfErr, OnOk, codes, decimal};
+ghost use Rattle.std.specs.Fmt.{◌++?◌};
 ghost use Rattle.std.specs.Io.KnownBytes.{Appends};
-ghost use Rattle.ragtimuwen.specs.Printed.{not_generated};
+ghost use Rattle.ragtimuwen.specs.Printed.{spaced, not_generated};
 ghost use Rattle.script.specs.Meaning.{meaning_of};
 ghost use Rattle.ragtimuwen.specs.Solvable.{Solvable, Unsolvable};
 
@@ -112,7 +114,9 @@ impl<'a, W: Write> Answers<'a, W> {
     }
 
     // A line of what the states are, and then the states.
-    fn states(&mut self, name: &str, states: &[u8]) -> io::Result<()> {
+    fn states(&mut self, name: &str, states: &[u8]) -> io::Result<()>
+        ensures { OnOk result (IfSome (Some name.now ++? (spaced (λ n. Some (decimal n)) states.now ++? Some (codes "\n"))) (Appends (W.contents self.old.out.now) (W.contents self.new.out.now))) }
+    {
         let states = Spaced(states);
         writeln!(self.out, "{name}{states}")
     }

@@ -10,6 +10,8 @@ use std::io::{BufWriter, Read};
 use std::process::ExitCode;
 use std::{env, fs, io};
 
+// No clause can say what arguments, files and standard input hold, so these functions have none.
+
 // The one argument, if there is any.
 fn script_path(rt: &HostRuntime) -> io::Result<Option<String>> {
     let mut args = env::args(rt)?;

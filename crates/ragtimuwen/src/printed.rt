@@ -1,7 +1,7 @@
 //! What the program prints, line by line.
 
 ghost use Rattle.std.specs.Prelude.{Some};
-ghost use Rattle.ragtimuwen.specs.Printed.{heading, refused, not_generated};
+ghost use Rattle.ragtimuwen.specs.Printed.{heading, spaced, refused, not_generated};
 
 use model::fault::ReadFault;
 use model::number::TextPlace;
@@ -27,11 +27,13 @@ impl<R: Rule> fmt::Display for Heading<'_, R> {
     }
 }
 
-/// Values with a space before each. Which bytes it prints is not stated, since values of a type parameter may not state theirs.
+/// Values with a space before each.
 #[derive(Drop)]
 pub struct Spaced<'a, T>(pub &'a [T]);
 
 impl<T: fmt::Display> fmt::Display for Spaced<'_, T> {
+    ghost output = { λ s. spaced T.output s.0.now };
+
     fn fmt<W: fmt::Write>(&self, f: &mut fmt::Formatter<W>) -> fmt::Result {
         for value in self.0 {
             write!(f, " {value}")?;

@@ -21,16 +21,9 @@ use Rattle.sheet.specs.Shows.{Shows, Keeps, written}
 use Rattle.sheet.proofs.Paging.{rules_agree}
 
 -- what write says and leaves, by whether the file fits
-pub fits_or_not : (F buffer left : List ℕ) (r : Result ℕ Refusal) → r ≡ Put.written F buffer → left ≡ Put.left F buffer
-    → (written r left ≡ elim (leb (length F) (length buffer)) [ false ↦ refused ShortBuffer | true ↦ wrote (length F) (overwritten F buffer) ])
-    × ((e : Refusal) → r ≡ Err e → left ≡ buffer)
-fits_or_not F buffer left r er el = go (leb (length F) (length buffer)) er el
-  where
-    go : (b : Bool) → r ≡ cond b (Ok (length F)) (Err ShortBuffer) → left ≡ cond b (overwritten F buffer) buffer
-        → (written r left ≡ elim b [ false ↦ refused ShortBuffer | true ↦ wrote (length F) (overwritten F buffer) ])
-        × ((e : Refusal) → r ≡ Err e → left ≡ buffer)
-    go true e l = (ap {B = Answer} (λ r. written r left) e ∙ ap {B = Answer} (wrote (length F)) l, λ x h. absurd (let f = sym e ∙ h in let z : ◌≡◌ {A = ℕ} 0 1 = cc in omega arith))
-    go false e l = (ap {B = Answer} (λ r. written r left) e, λ x h. l)
+fits_or_not : (F buffer left : List ℕ) (r : Result ℕ Refusal) → r ≡ Put.written F buffer → left ≡ Put.left F buffer
+    → written r left ≡ elim (leb (length F) (length buffer)) [ false ↦ refused ShortBuffer | true ↦ wrote (length F) (overwritten F buffer) ]
+fits_or_not F buffer left r er el = grind (arith, er, el)
 
 answer_of : (s : Sheet) (F buffer : List ℕ) (b : Bool)
     → elim b [ false ↦ refused ShortBuffer | true ↦ wrote (length F) (overwritten F buffer) ] ≡ (elim b as (λ _. Outcome) [ false ↦ answers s (refused ShortBuffer) | true ↦ answers s (wrote (length F) (overwritten F buffer)) ]).answer
@@ -72,7 +65,7 @@ module _ (p : Page) (s : Sheet) (shows : Shows p s) (A : Automaton) (agrees : Ag
       let F : Optional Stored → Type 0 = λ o. Keeps s o (vec_items p.workspace.states) in
       let (f, is, st) = subst F e shows.stored in
       let same = file_as f k (vec_items p.workspace.states) st in
-      let said = (fits_or_not (file_of s f) buffer left r (er ∙ ap {B = Result ℕ Refusal} (λ v. Put.written v buffer) same) (el ∙ ap {B = List ℕ} (λ v. Put.left v buffer) same)).0 in
+      let said = fits_or_not (file_of s f) buffer left r (er ∙ ap {B = Result ℕ Refusal} (λ v. Put.written v buffer) same) (el ∙ ap {B = List ℕ} (λ v. Put.left v buffer) same) in
       let out = ap {B = Outcome} (write_with s buffer) is in
       let b = leb (length (file_of s f)) (length buffer) in (
         said ∙ answer_of s (file_of s f) buffer b ∙ sym (ap {B = Answer} (λ (o : Outcome). o.answer) out),

@@ -12,19 +12,11 @@ use Rattle.sheet.specs.Shows.{Stands}
 use Rattle.sheet.specs.Requests.{room, call_of, calls_of, all_said, all_held, Called, Ran}
 
 -- a part that would be longer than the list is the list
-pub take_min : {X : Type 0} (n : ℕ) (xs : List X) → take (min n (length xs)) xs ≡ take n xs
-take_min {X} n xs = go (cases_lt n (length xs))
-  where
-    go : (n < length xs) ⊎ (length xs ≤ n) → take (min n (length xs)) xs ≡ take n xs
-    go (inl h) = ap {B = List X} (λ k. take k xs) (let e : min n (length xs) ≡ n = omega arith in e)
-    go (inr h) = take_all (min n (length xs)) xs (omega arith) ∙ sym (take_all n xs h)
+take_min : {X : Type 0} (n : ℕ) (xs : List X) → take (min n (length xs)) xs ≡ take n xs
+take_min n xs = grind (arith, take_all n xs, take_all (min n (length xs)) xs)
 
-pub drop_min : {X : Type 0} (n : ℕ) (xs : List X) → drop (min n (length xs)) xs ≡ drop n xs
-drop_min {X} n xs = go (cases_lt n (length xs))
-  where
-    go : (n < length xs) ⊎ (length xs ≤ n) → drop (min n (length xs)) xs ≡ drop n xs
-    go (inl h) = ap {B = List X} (λ k. drop k xs) (let e : min n (length xs) ≡ n = omega arith in e)
-    go (inr h) = drop_all (min n (length xs)) xs (omega arith) ∙ sym (drop_all n xs h)
+drop_min : {X : Type 0} (n : ℕ) (xs : List X) → drop (min n (length xs)) xs ≡ drop n xs
+drop_min n xs = grind (arith, drop_all n xs, drop_all (min n (length xs)) xs)
 
 module _ {R : Type 0} (before : Kept R) (requests : List Request) (output : List ℕ) where
   -- i requests are done, and with them the output up to a place: what is still to be done leads to the whole

@@ -57,30 +57,16 @@ same_any name [] [] e = refl
 same_any name [] (n ∷ named) e = absurd (apart_left n named e)
 same_any name (r ∷ kept) [] e = absurd (apart_right r kept e)
 same_any name (r ∷ kept) (n ∷ named) e =
-    let h = same_any name kept named (same_tail r kept n named e) in
-    ap {B = Bool} (λ b. elim b [ true ↦ true | false ↦ any (has_that_name name) kept ]) (same_test name r n (same_head r kept n named e))
-    ∙ ap {B = Bool} (λ v. elim (same_name name n.name) [ true ↦ true | false ↦ v ]) h
+    grind (arith, same_any name kept named (same_tail r kept n named e), same_test name r n (same_head r kept n named e))
 
 pub same_kept : (name : List ℕ) (kept : List ReadRule) (named : List Named) → Same kept named
     → Same (filter (λ r. not (has_that_name name r)) kept) (filter (λ (a : Named). not (same_name name a.name)) named)
 same_kept name [] [] e = refl
 same_kept name [] (n ∷ named) e = absurd (apart_left n named e)
 same_kept name (r ∷ kept) [] e = absurd (apart_right r kept e)
-same_kept name (r ∷ kept) (n ∷ named) e = go (same_name name n.name) (same_test name r n (same_head r kept n named e)) refl (same_kept name kept named (same_tail r kept n named e)) (same_head r kept n named e)
-  where
-    go : (b : Bool) → has_that_name name r ≡ same_name name n.name → same_name name n.name ≡ b
-        → Same (filter (λ r. not (has_that_name name r)) kept) (filter (λ (a : Named). not (same_name name a.name)) named) → view r ≡ filled n
-        → Same (filter (λ r. not (has_that_name name r)) (r ∷ kept)) (filter (λ (a : Named). not (same_name name a.name)) (n ∷ named))
-    go b t g below head =
-        let K = filter (λ r. not (has_that_name name r)) kept in
-        let N = filter (λ (a : Named). not (same_name name a.name)) named in
-        ap {B = List Rule} (λ v. map view (cond (not v) (r ∷ K) K)) (t ∙ g) ∙ at b below head ∙ sym (ap {B = List Rule} (λ v. map filled (cond (not v) (n ∷ N) N)) g)
-      where
-        at : (b : Bool) → Same (filter (λ r. not (has_that_name name r)) kept) (filter (λ (a : Named). not (same_name name a.name)) named) → view r ≡ filled n
-            → map view (cond (not b) (r ∷ filter (λ r. not (has_that_name name r)) kept) (filter (λ r. not (has_that_name name r)) kept))
-            ≡ map filled (cond (not b) (n ∷ filter (λ (a : Named). not (same_name name a.name)) named) (filter (λ (a : Named). not (same_name name a.name)) named))
-        at true below head = below
-        at false below head = cc
+same_kept name (r ∷ kept) (n ∷ named) e =
+    let head = same_head r kept n named e in
+    grind (arith, same_kept name kept named (same_tail r kept n named e), same_test name r n head, head)
 
 pub same_push : (kept : List ReadRule) (named : List Named) (r : ReadRule) (n : Named) → Same kept named → view r ≡ filled n → Same (kept ++ (r ∷ [])) (named ++ (n ∷ []))
 same_push [] [] r n e h = cc
@@ -100,15 +86,7 @@ together_agrees A B (M ∷ rules) g = together_agrees (beside A M) (beside B M) 
 -- the rules that are kept are alike
 pub all_alike : (H : Automaton) (kept : List ReadRule) → every (is_for H) kept ≡ true → All (Alike H) (map meaning kept)
 all_alike H [] e = tt
-all_alike H (r ∷ kept) e = go (is_for H r) refl (all_alike H kept)
-  where
-    go : (b : Bool) → is_for H r ≡ b → (every (is_for H) kept ≡ true → All (Alike H) (map meaning kept)) → All (Alike H) (map meaning (r ∷ kept))
-    go true h below =
-        let p = and_parts (eqb (meaning r).situations H.situations) (eqb (meaning r).commands H.commands) h in (
-          record { situations = eqb-true (meaning r).situations H.situations p.0; commands = eqb-true (meaning r).commands H.commands p.1 },
-          below (sym (ap {B = Bool} (λ b. elim b [ true ↦ every (is_for H) kept | false ↦ false ]) h) ∙ e),
-        )
-    go false h below = absurd (let z : false ≡ true = sym (ap {B = Bool} (λ b. elim b [ true ↦ every (is_for H) kept | false ↦ false ]) h) ∙ e in let n : ◌≡◌ {A = ℕ} 0 1 = cc in omega arith)
+all_alike H (r ∷ kept) e = grind (arith, all_alike H kept, e)
 
 -- A PAGE AND ITS SHEET
 
@@ -127,14 +105,8 @@ outcome o after a p e sh = (sym (ap {B = Answer} (λ (o : Outcome). o.answer) e)
 
 -- withdraw, by whether the name is there
 pub withdraw_unknown : (s : Sheet) (name : List ℕ) → any (λ (a : Named). same_name name a.name) s.added ≡ false → withdraw_from s name ≡ answers s (refused NoSuchName)
-withdraw_unknown s name e =
-    ap {B = Outcome} (λ b. elim b [ false ↦ answers s (refused NoSuchName) | true ↦ answers (with_added s (filter (λ (a : Named). not (same_name name a.name)) s.added)) done ]) e
+withdraw_unknown s name e = grind (arith, e)
 
 pub withdraw_known : (s : Sheet) (name : List ℕ) → any (λ (a : Named). same_name name a.name) s.added ≡ true
     → withdraw_from s name ≡ answers (with_added s (filter (λ (a : Named). not (same_name name a.name)) s.added)) done
-withdraw_known s name e =
-    ap {B = Outcome} (λ b. elim b [ false ↦ answers s (refused NoSuchName) | true ↦ answers (with_added s (filter (λ (a : Named). not (same_name name a.name)) s.added)) done ]) e
-
--- no controller is kept
-pub none_kept : (k : Stored) → None ≡ Some k → k.found.states ≤ 1024
-none_kept k e = absurd (let z : ◌≡◌ {A = ℕ} 0 1 = cc in omega arith)
+withdraw_known s name e = grind (arith, e)

@@ -1,16 +1,12 @@
 //! Calls one after another on a newly opened sheet.
 
 ghost use Rattle.std.specs.Prelude.{◌≡◌, min, length, take, drop};
-ghost use Rattle.sheet.specs.Requests.{room as room_of, told, TextAdded, Called, Ran};
-ghost use Rattle.sheet.specs.Shows.{settled, solution, commanded};
+ghost use Rattle.sheet.specs.Requests.{room as room_of, TextAdded, Called, Ran};
 ghost use Rattle.sheet.specs.Replayed.{Replayed};
-ghost use Rattle.model.specs.Sheet.{verdict};
 
 use crate::memory::Memory;
 use crate::request::{Answer, Request};
 use crate::sheet::Sheet;
-use crate::stored::Solution;
-use model::refusal::Refusal;
 use rules::Rule;
 use ruletext::ReadRule;
 use ruletext::read::read;

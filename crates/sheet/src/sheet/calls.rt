@@ -45,6 +45,8 @@ fn new_page<R: Rule>(
     Ok(Page::new(house, capacity, memory))
 }
 
+// Each call has a match of its own: `as_mut` on the page gets no proof, and with the call as a closure the proof did not close.
+
 impl<R: Rule> Sheet<R> {
     /// Opens a sheet, with no rule added, limit 14 and no controller. Opened on what the look refuses, it gives that refusal from every
     /// call but close.
