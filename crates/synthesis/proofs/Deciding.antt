@@ -1,6 +1,7 @@
 -- What the tests of positions say, one way at a time. Assumes nothing.
-use Rattle.std.proofs.Common.{◌≡◌, ℕ, zero, suc, ◌+◌, ◌<◌, ◌≤◌, Bool, true, false, leb, ◌↔◌, List, [], ◌∷◌, length, get_or, sym, refl, subst, zero-le, arith}
+use Rattle.std.proofs.Common.{◌≡◌, ℕ, zero, suc, ◌+◌, ◌<◌, ◌≤◌, Bool, true, false, leb, ◌↔◌, List, [], ◌∷◌, length, get_or, ◌&&◌, sym, refl, ◌∙◌, subst, zero-le, arith}
 use mathlib.Core.Bool.{false≢true}
+use Rattle.std.specs.List.{list_all}
 use Rattle.std.proofs.lemmas.Bool.{leb-true, le-leb}
 use Rattle.model.specs.Automaton.{Automaton}
 use Rattle.model.specs.Lists.{every, In}
@@ -49,6 +50,19 @@ fits_complete c [] h = refl
 fits_complete c (m ∷ P) h =
     subst (λ b. elim b as (λ v. Bool) [ true ↦ every (λ m. leb m (c + 1)) P | false ↦ false ] ≡ true) (sym (le-leb m (c + 1) (h 0 (omega arith))))
     (fits_complete c P (λ q k. h (suc q) (omega arith)))
+
+pub fits_listed : (c : ℕ) (P : Position) (b : Bool) → b ≡ list_all (λ m. leb m (c + 1)) P → b ≡ fits c P
+unfolding fits
+fits_listed c P b e = e ∙ go P
+  where
+    go : (Q : List ℕ) → list_all (λ m. leb m (c + 1)) Q ≡ every (λ m. leb m (c + 1)) Q
+    go [] = refl
+    go (m ∷ Q) = more (leb m (c + 1)) (go Q)
+      where
+        more : (b : Bool) → list_all (λ m. leb m (c + 1)) Q ≡ every (λ m. leb m (c + 1)) Q
+            → (b && list_all (λ m. leb m (c + 1)) Q) ≡ elim b as (λ v. Bool) [ true ↦ every (λ m. leb m (c + 1)) Q | false ↦ false ]
+        more true e = e
+        more false e = refl
 
 -- IN A LIST
 

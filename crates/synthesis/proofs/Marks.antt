@@ -1,7 +1,7 @@
 -- Arrays filled from the front, and the marks of a step. Assumes nothing.
-use Rattle.std.proofs.Common.{◌≡◌, ℕ, zero, suc, ◌+◌, ◌-◌, ◌<◌, ◌≤◌, max, Bool, true, false, cond, ◌&&◌, ltb, List, [], ◌∷◌, ◌++◌, map, length, get_or, set, replicate, Some, None, Option as Maybe, sym, refl, ap, ◌∙◌, subst, inl, inr, append-nil, add-zero, add-suc, add-one, arith, get_or-set_other, get_or-set_same}
+use Rattle.std.proofs.Common.{◌≡◌, ℕ, zero, suc, ◌+◌, ◌-◌, ◌<◌, ◌≤◌, max, Bool, true, false, cond, ◌&&◌, ltb, List, [], ◌∷◌, ◌++◌, map, length, get_or, set, replicate, Some, None, Option as Maybe, sym, refl, ap, ◌∙◌, subst, inl, inr, append-nil, add-zero, add-suc, add-one, arith, length-append, ext_get_or, get_or-set_other, get_or-set_same}
 use Rattle.std.specs.List.{range_with_len}
-use Rattle.std.proofs.lemmas.List.{set_at, append_assoc}
+use Rattle.std.proofs.lemmas.List.{set_at, append_assoc, get_or_append_left, get_or-append_right, get_or-replicate, length-replicate}
 use Rattle.std.proofs.lemmas.List.FromFn.{map-range_with_len_more, length-map-range_with_len, get_or-map-range_with_len}
 use Rattle.std.proofs.lemmas.Bool.{lt-ltb, le-ltb, cases_lt, cases_eq, cases_Bool}
 use Rattle.synthesis.specs.Tables.{stored, stepped, mark_before}
@@ -38,6 +38,23 @@ pub filled_whole : (size : ℕ) (f : ℕ → ℕ) (xs : List ℕ) (i : ℕ) → 
 filled_whole size f xs i ei e =
     let z : size - size ≡ 0 = omega arith in
     e ∙ ap {B = List ℕ} (filled size f) ei ∙ ap {B = List ℕ} (λ k. map f (range_with_len 0 size) ++ replicate k 0) z ∙ append-nil (map f (range_with_len 0 size))
+
+-- an array whose places are so filled is what the list of marks is stored as
+pub stored_by : (f : ℕ → ℕ) (n : ℕ) (xs : List ℕ) → n ≤ 16 → length xs ≡ 16 → ((q : ℕ) → q < 16 → get_or xs q 0 ≡ cond (ltb q n) (f q) 0) → position xs ≡ stored (map f (range_with_len 0 n))
+stored_by f n xs le long h =
+    let front : List ℕ = map f (range_with_len 0 n) in
+    let behind : List ℕ = replicate (16 - length front) 0 in
+    let lf : length front ≡ n = length-map-range_with_len f 0 n in
+    let lb : length behind ≡ 16 - n = length-replicate (16 - length front) 0 ∙ ap {B = ℕ} (λ k. 16 - k) lf in
+    ap position (ext_get_or 0 xs (front ++ behind) (omega (arith, long, lf, lb, le, length-append front behind))
+    (λ q l. elim (cases_lt q n) [
+      | inl k ↦
+          h q (omega (arith, l, long)) ∙ ap {B = ℕ} (λ b. cond b (f q) 0) (lt-ltb q n k)
+          ∙ sym (get_or_append_left front behind 0 q (omega (arith, k, lf)) ∙ get_or-map-range_with_len f 0 n q q 0 k (omega arith))
+      | inr k ↦
+          h q (omega (arith, l, long)) ∙ ap {B = ℕ} (λ b. cond b (f q) 0) (le-ltb q n k)
+          ∙ sym (get_or-append_right front behind n q 0 lf k ∙ get_or-replicate (16 - length front) (q - n) 0 0 (omega (arith, l, long, k, lf)))
+    ]))
 
 pub largest_more : (f : ℕ → ℕ) (q : ℕ) → largest f (q + 1) ≡ max (f q) (largest f q)
 largest_more f q = rw add-one

@@ -1,12 +1,14 @@
 //! The position at the start, and one step on.
 
-ghost use Rattle.std.specs.Prelude.{◌≡◌, ◌<◌, ◌≤◌, if◌then◌else◌};
+ghost use Rattle.std.specs.Prelude.{◌≡◌, ℕ, ◌<◌, ◌≤◌, nat_le, nat_lt, slice_index, if◌then◌else◌};
+ghost use Rattle.std.specs.List.{list_all};
 ghost use Rattle.model.specs.Automaton.{weight as weight_of};
 ghost use Rattle.model.specs.Positions.{largest, first_mark, start_position, handed as mark_handed, fits as position_fits};
 ghost use Rattle.synthesis.specs.Tables.{automaton, view, stored, stepped, mark_before};
 
 use crate::arrows::Arrows;
 use crate::position::Position;
+use std::array;
 
 /// What a state adds to a tally: 1 if it is rejecting, else 0.
 fn weight(arrows: &Arrows, state: usize) -> u8
@@ -17,27 +19,31 @@ fn weight(arrows: &Arrows, state: usize) -> u8
     if arrows.flags[state].rejects { 1 } else { 0 }
 }
 
-/// The mark of a state at the start.
+/// The mark of a state at the start, 0 behind the last state.
 fn first_mark(arrows: &Arrows, state: usize) -> u8
-    requires { state < arrows.now.states }
-    ensures { result ≡ first_mark (automaton arrows.now) state }
+    ensures { result ≡ (if nat_lt state arrows.now.states then first_mark (automaton arrows.now) state else 0) }
 {
-    if arrows.flags[state].starts {
+    if state < arrows.states as usize && arrows.flags[state].starts {
         1 + weight(arrows, state)
     } else {
         0
     }
 }
 
+/// The marks at the start.
+fn first_marks(arrows: &Arrows) -> [u8; 16]
+    ensures { (q : ℕ) → q < 16 → slice_index result q ≡ (if nat_lt q arrows.now.states then first_mark (automaton arrows.now) q else 0) }
+{
+    array::from_fn(|state| first_mark(arrows, state))
+}
+
 /// The position at the start.
 pub fn start(arrows: &Arrows) -> Position
     ensures { result ≡ stored (start_position (automaton arrows.now)) }
 {
-    let mut marks = [0; 16];
-    for state in 0..arrows.states as usize {
-        marks[state] = first_mark(arrows, state);
+    Position {
+        marks: first_marks(arrows),
     }
-    Position { marks }
 }
 
 /// The mark, if it is passed on.
@@ -109,16 +115,18 @@ pub fn step(
     Some(Position { marks })
 }
 
+/// Whether no mark is over the highest.
+fn all_within(marks: &[u8], highest: u8) -> bool
+    ensures { result ≡ list_all (λ mark. nat_le mark highest) marks.now }
+{
+    marks.iter().all(|mark| *mark <= highest)
+}
+
 /// Whether no tally of the first `states` marks passes c.
 pub fn fits(states: u8, c: u8, position: &Position) -> bool
     requires few { states ≤ 16 }
     requires low { c < 255 }
     ensures { result ≡ position_fits c (view states position.now) }
 {
-    for state in 0..states as usize {
-        if position.marks[state] > c + 1 {
-            return false;
-        }
-    }
-    true
+    all_within(&position.marks[..states as usize], c + 1)
 }
