@@ -1,6 +1,7 @@
 -- What the tests of positions say, one way at a time. Assumes nothing.
-use Rattle.std.proofs.Common.{◌≡◌, ℕ, zero, suc, ◌+◌, ◌<◌, ◌≤◌, Bool, true, false, leb, ◌↔◌, List, [], ◌∷◌, length, get_or, ◌&&◌, sym, refl, ◌∙◌, subst, zero-le, arith}
+use Rattle.std.proofs.Common.{◌≡◌, ℕ, zero, suc, ◌+◌, ◌<◌, ◌≤◌, Bool, true, false, eqb, leb, ◌↔◌, List, [], ◌∷◌, length, get_or, ◌&&◌, sym, refl, ◌∙◌, subst, zero-le, arith}
 use mathlib.Core.Bool.{false≢true}
+use lib.Pointwise.{pointwise}
 use Rattle.std.specs.List.{list_all}
 use Rattle.std.proofs.lemmas.Bool.{leb-true, le-leb}
 use Rattle.model.specs.Automaton.{Automaton}
@@ -30,6 +31,16 @@ same_refl P = (decides_same P P).1 refl
 
 pub same_exact : (P Q : Position) → (same P Q ≡ true) ↔ (P ≡ Q)
 same_exact P Q = ((decides_same P Q).0, (decides_same P Q).1)
+
+pub pointwise_same : (P Q : Position) → pointwise eqb P Q ≡ same P Q
+pointwise_same [] [] = refl
+pointwise_same [] (y ∷ Q) = refl
+pointwise_same (x ∷ P) [] = refl
+pointwise_same (x ∷ P) (y ∷ Q) = go (eqb x y) (pointwise_same P Q)
+  where
+    go : (b : Bool) → pointwise eqb P Q ≡ same P Q → (b && pointwise eqb P Q) ≡ elim b as (λ v. Bool) [ true ↦ same P Q | false ↦ false ]
+    go true e = e
+    go false e = refl
 
 -- NO TALLY PASSES C
 

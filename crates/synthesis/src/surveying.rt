@@ -13,17 +13,6 @@ use crate::stepping::{fits, start, step};
 use search::breadth_first::explore;
 use search::graph::Graph;
 
-/// Whether all marks are equal. It looks at each, so that all are compared at once.
-fn same_marks(a: &[u8; 16], b: &[u8; 16]) -> bool
-    ensures { result ≡ same_marks a.now b.now }
-{
-    let mut same = true;
-    for i in 0..16usize {
-        same &= a[i] == b[i];
-    }
-    same
-}
-
 /// The successor with the number i is the step under the command i / 8 in the situation i % 8.
 impl Graph<64> for Positions<'_> {
     type Node = Position;
@@ -33,7 +22,7 @@ impl Graph<64> for Positions<'_> {
     ghost successor = { λ g P i. candidate (automaton g.arrows.now) g.c (view g.arrows.now.states P) (i / 8) (i % 8) };
 
     fn same(&self, a: &Position, b: &Position) -> bool {
-        same_marks(&a.marks, &b.marks)
+        *a == *b
     }
 
     fn successor(&self, node: &Position, i: usize) -> Option<Position> {
