@@ -1,5 +1,5 @@
 -- What the tests of positions say, one way at a time. Assumes nothing.
-use Rattle.std.proofs.Common.{◌≡◌, ℕ, zero, suc, ◌+◌, ◌<◌, ◌≤◌, Bool, true, false, eqb, leb, ◌↔◌, List, [], ◌∷◌, length, get_or, ◌&&◌, sym, refl, ◌∙◌, subst, zero-le, arith}
+use Rattle.std.proofs.Common.{◌≡◌, ℕ, zero, suc, ◌+◌, ◌<◌, ◌≤◌, Bool, true, false, eqb, leb, List, [], ◌∷◌, length, get_or, ◌&&◌, sym, refl, ◌∙◌, subst, zero-le, arith}
 use mathlib.Core.Bool.{false≢true}
 use lib.Pointwise.{pointwise}
 use Rattle.std.specs.List.{list_all}
@@ -7,19 +7,13 @@ use Rattle.std.proofs.lemmas.Bool.{leb-true, le-leb}
 use Rattle.model.specs.Automaton.{Automaton}
 use Rattle.model.specs.Lists.{every, In}
 use Rattle.model.specs.Positions.{Position, step, same, fits, member, holds}
-use Rattle.model.proofs.Lists.{decides_every, decides_same}
+use Rattle.model.proofs.Lists.{decides_same}
 use Rattle.model.proofs.Reaching.{decides_member, decides_holds}
 
 pub same_bool : (a b : Bool) → (a ≡ true → b ≡ true) → (b ≡ true → a ≡ true) → a ≡ b
 same_bool true b f g = sym (f refl)
 same_bool false true f g = absurd (false≢true (g refl))
 same_bool false false f g = refl
-
-pub every_sound : {X : Type 0} (f : X → Bool) (xs : List X) → every f xs ≡ true → (x : X) → In xs x → f x ≡ true
-every_sound f xs = (decides_every f (λ x. f x ≡ true) (λ x. (λ e. e, λ e. e)) xs).0
-
-pub every_complete : {X : Type 0} (f : X → Bool) (xs : List X) → ((x : X) → In xs x → f x ≡ true) → every f xs ≡ true
-every_complete f xs = (decides_every f (λ x. f x ≡ true) (λ x. (λ e. e, λ e. e)) xs).1
 
 -- THE SAME POSITION
 
@@ -28,9 +22,6 @@ same_sound P Q = (decides_same P Q).0
 
 pub same_refl : (P : Position) → same P P ≡ true
 same_refl P = (decides_same P P).1 refl
-
-pub same_exact : (P Q : Position) → (same P Q ≡ true) ↔ (P ≡ Q)
-same_exact P Q = ((decides_same P Q).0, (decides_same P Q).1)
 
 pub pointwise_same : (P Q : Position) → pointwise eqb P Q ≡ same P Q
 pointwise_same [] [] = refl

@@ -9,7 +9,7 @@ use crate::arrows::Arrows;
 use crate::graphs::Positions;
 use crate::position::Position;
 use crate::pruning::safe_part;
-use crate::stepping::{fits, start, step};
+use crate::stepping::fits;
 use search::breadth_first::explore;
 use search::graph::Graph;
 
@@ -29,7 +29,7 @@ impl Graph<64> for Positions<'_> {
         let command = (i / 8) as u8;
         let situation = (i % 8) as u8;
         if command < self.arrows.numbers.commands && situation < self.arrows.numbers.situations {
-            step(self.arrows, self.c, command, situation, node)
+            self.arrows.step(self.c, command, situation, node)
         } else {
             None
         }
@@ -49,7 +49,7 @@ fn reach(
     requires rows { length met.old ≤ length links.old }
     ensures { Reached (automaton arrows.now) c (length met.old) result met.new links.new }
 {
-    let first = start(arrows);
+    let first = arrows.start();
     if !fits(arrows.states, c, &first) {
         return Some(0);
     }
