@@ -58,9 +58,6 @@ module _ {X : Type 0} (same : X → X → Bool) where
       pub met : m ≡ fold (with_met same) before (map (successor x) (range_with_len 0 i))
       pub linked : LinkedFrom same successor m links x i
 
-    pub spreading_none : (links : List (Option ℕ)) → Spreading before links 0
-    spreading_none links = record { met = refl; linked = λ i lt. absurd (omega arith) }
-
     pub spreading_more : ((y : X) → same y y ≡ true) → (m n : List X) (links : List (Option ℕ)) (i : ℕ) (link : Option ℕ) → Spreading m links i → i < length links
         → n ≡ with_met same m (successor x i) → link ≡ link_to same m (successor x i)
         → Spreading n (set links i link) (i + 1)

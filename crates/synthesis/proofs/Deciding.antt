@@ -1,23 +1,19 @@
 -- What the tests of positions say, one way at a time. Assumes nothing.
-use Rattle.std.proofs.Common.{◌≡◌, ℕ, zero, suc, ◌+◌, ◌<◌, ◌≤◌, Bool, true, false, leb, ◌↔◌, List, [], ◌∷◌, length, get_or, sym, refl, subst, zero-le, arith}
+use Rattle.std.proofs.Common.{◌≡◌, ℕ, zero, suc, ◌+◌, ◌<◌, ◌≤◌, Bool, true, false, eqb, leb, List, [], ◌∷◌, length, get_or, ◌&&◌, sym, refl, ◌∙◌, subst, zero-le, arith}
 use mathlib.Core.Bool.{false≢true}
+use lib.Pointwise.{pointwise}
+use Rattle.std.specs.List.{list_all}
 use Rattle.std.proofs.lemmas.Bool.{leb-true, le-leb}
 use Rattle.model.specs.Automaton.{Automaton}
 use Rattle.model.specs.Lists.{every, In}
 use Rattle.model.specs.Positions.{Position, step, same, fits, member, holds}
-use Rattle.model.proofs.Lists.{decides_every, decides_same}
+use Rattle.model.proofs.Lists.{decides_same}
 use Rattle.model.proofs.Reaching.{decides_member, decides_holds}
 
 pub same_bool : (a b : Bool) → (a ≡ true → b ≡ true) → (b ≡ true → a ≡ true) → a ≡ b
 same_bool true b f g = sym (f refl)
 same_bool false true f g = absurd (false≢true (g refl))
 same_bool false false f g = refl
-
-pub every_sound : {X : Type 0} (f : X → Bool) (xs : List X) → every f xs ≡ true → (x : X) → In xs x → f x ≡ true
-every_sound f xs = (decides_every f (λ x. f x ≡ true) (λ x. (λ e. e, λ e. e)) xs).0
-
-pub every_complete : {X : Type 0} (f : X → Bool) (xs : List X) → ((x : X) → In xs x → f x ≡ true) → every f xs ≡ true
-every_complete f xs = (decides_every f (λ x. f x ≡ true) (λ x. (λ e. e, λ e. e)) xs).1
 
 -- THE SAME POSITION
 
@@ -27,8 +23,15 @@ same_sound P Q = (decides_same P Q).0
 pub same_refl : (P : Position) → same P P ≡ true
 same_refl P = (decides_same P P).1 refl
 
-pub same_exact : (P Q : Position) → (same P Q ≡ true) ↔ (P ≡ Q)
-same_exact P Q = ((decides_same P Q).0, (decides_same P Q).1)
+pub pointwise_same : (P Q : Position) → pointwise eqb P Q ≡ same P Q
+pointwise_same [] [] = refl
+pointwise_same [] (y ∷ Q) = refl
+pointwise_same (x ∷ P) [] = refl
+pointwise_same (x ∷ P) (y ∷ Q) = go (eqb x y) (pointwise_same P Q)
+  where
+    go : (b : Bool) → pointwise eqb P Q ≡ same P Q → (b && pointwise eqb P Q) ≡ elim b as (λ v. Bool) [ true ↦ same P Q | false ↦ false ]
+    go true e = e
+    go false e = refl
 
 -- NO TALLY PASSES C
 
@@ -49,6 +52,19 @@ fits_complete c [] h = refl
 fits_complete c (m ∷ P) h =
     subst (λ b. elim b as (λ v. Bool) [ true ↦ every (λ m. leb m (c + 1)) P | false ↦ false ] ≡ true) (sym (le-leb m (c + 1) (h 0 (omega arith))))
     (fits_complete c P (λ q k. h (suc q) (omega arith)))
+
+pub fits_listed : (c : ℕ) (P : Position) (b : Bool) → b ≡ list_all (λ m. leb m (c + 1)) P → b ≡ fits c P
+unfolding fits
+fits_listed c P b e = e ∙ go P
+  where
+    go : (Q : List ℕ) → list_all (λ m. leb m (c + 1)) Q ≡ every (λ m. leb m (c + 1)) Q
+    go [] = refl
+    go (m ∷ Q) = more (leb m (c + 1)) (go Q)
+      where
+        more : (b : Bool) → list_all (λ m. leb m (c + 1)) Q ≡ every (λ m. leb m (c + 1)) Q
+            → (b && list_all (λ m. leb m (c + 1)) Q) ≡ elim b as (λ v. Bool) [ true ↦ every (λ m. leb m (c + 1)) Q | false ↦ false ]
+        more true e = e
+        more false e = refl
 
 -- IN A LIST
 

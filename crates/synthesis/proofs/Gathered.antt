@@ -24,24 +24,6 @@ agrees_trans A B C g h =
           g.follows q u x p (omega (arith, a)) (omega (arith, b)) (omega (arith, c)) (omega (arith, a)) ∙ h.follows q u x p hq hu hx hp;
     }
 
--- the house rule alone
-pub agrees_none : (N M : Automaton) → N.situations ≡ M.situations → N.commands ≡ M.commands → N.states ≡ 0 → Agrees (beside N M) M
-agrees_none N M es ec en =
-    let q0 : (q : ℕ) → q - N.states ≡ q = λ q. omega arith in
-    let f : (q : ℕ) → ltb q N.states ≡ false = λ q. le-ltb q N.states (omega arith) in
-    record {
-      situations = omega arith;
-      commands = omega arith;
-      states = omega arith;
-      start = λ q l. ap {B = Bool} (λ b. cond b (N.start q) (M.start (q - N.states))) (f q) ∙ ap {B = Bool} M.start (q0 q);
-      reject = λ q l. ap {B = Bool} (λ b. cond b (N.reject q) (M.reject (q - N.states))) (f q) ∙ ap {B = Bool} M.reject (q0 q);
-      follows = λ q u x p hq hu hx hp.
-          ap {B = Bool} (λ b. elim b as (λ v. Bool) [ true ↦ ltb p N.states && N.follows q u x p | false ↦ not (ltb p N.states) && M.follows (q - N.states) u x (p - N.states) ]) (f q)
-          ∙ ap {B = Bool} (λ b. not b && M.follows (q - N.states) u x (p - N.states)) (f p)
-          ∙ ap {B = Bool} (λ v. M.follows v u x (p - N.states)) (q0 q)
-          ∙ ap {B = Bool} (λ v. M.follows q u x v) (q0 p);
-    }
-
 -- one rule more
 pub beside_agrees : (A B M : Automaton) → Agrees A B → Agrees (beside A M) (beside B M)
 beside_agrees A B M g =

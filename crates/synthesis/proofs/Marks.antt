@@ -1,9 +1,9 @@
 -- Arrays filled from the front, and the marks of a step. Assumes nothing.
-use Rattle.std.proofs.Common.{◌≡◌, ℕ, zero, suc, ◌+◌, ◌-◌, ◌<◌, ◌≤◌, max, Bool, true, false, cond, ◌&&◌, ltb, List, [], ◌∷◌, ◌++◌, map, length, get_or, set, replicate, Some, None, Option as Maybe, sym, refl, ap, ◌∙◌, subst, inl, inr, append-nil, add-zero, add-suc, add-one, arith, get_or-set_other, get_or-set_same}
+use Rattle.std.proofs.Common.{◌≡◌, ℕ, zero, suc, ◌+◌, ◌-◌, ◌<◌, ◌≤◌, max, Bool, true, false, cond, ◌&&◌, ltb, List, [], ◌∷◌, ◌++◌, map, length, get_or, set, replicate, Some, None, Option as Maybe, sym, refl, ap, ◌∙◌, inl, inr, add-zero, add-suc, arith, length-append, ext_get_or}
 use Rattle.std.specs.List.{range_with_len}
-use Rattle.std.proofs.lemmas.List.{set_at, append_assoc}
+use Rattle.std.proofs.lemmas.List.{set_at, append_assoc, get_or_append_left, get_or-append_right, get_or-replicate, length-replicate}
 use Rattle.std.proofs.lemmas.List.FromFn.{map-range_with_len_more, length-map-range_with_len, get_or-map-range_with_len}
-use Rattle.std.proofs.lemmas.Bool.{lt-ltb, le-ltb, cases_lt, cases_eq, cases_Bool}
+use Rattle.std.proofs.lemmas.Bool.{lt-ltb, le-ltb, cases_lt, cases_Bool}
 use Rattle.synthesis.specs.Tables.{stored, stepped, mark_before}
 use Rattle.synthesis.specs.declared.position.Position.{Position as Stored}
 use Rattle.model.specs.Automaton.{Automaton, weight}
@@ -33,14 +33,22 @@ pub filled_all : (f : ℕ → ℕ) (xs : List ℕ) (i n : ℕ) → i ≡ n → x
 filled_all f xs i n ei e =
     ap position (e ∙ ap (filled 16 f) ei ∙ ap {B = List ℕ} (λ k. map f (range_with_len 0 n) ++ replicate (16 - k) 0) (sym (length-map-range_with_len f 0 n)))
 
--- filled to the end of the array
-pub filled_whole : (size : ℕ) (f : ℕ → ℕ) (xs : List ℕ) (i : ℕ) → i ≡ size → xs ≡ filled size f i → xs ≡ map f (range_with_len 0 size)
-filled_whole size f xs i ei e =
-    let z : size - size ≡ 0 = omega arith in
-    e ∙ ap {B = List ℕ} (filled size f) ei ∙ ap {B = List ℕ} (λ k. map f (range_with_len 0 size) ++ replicate k 0) z ∙ append-nil (map f (range_with_len 0 size))
-
-pub largest_more : (f : ℕ → ℕ) (q : ℕ) → largest f (q + 1) ≡ max (f q) (largest f q)
-largest_more f q = rw add-one
+-- an array whose places are so filled is what the list of marks is stored as
+pub stored_by : (f : ℕ → ℕ) (n : ℕ) (xs : List ℕ) → n ≤ 16 → length xs ≡ 16 → ((q : ℕ) → q < 16 → get_or xs q 0 ≡ cond (ltb q n) (f q) 0) → position xs ≡ stored (map f (range_with_len 0 n))
+stored_by f n xs le long h =
+    let front : List ℕ = map f (range_with_len 0 n) in
+    let behind : List ℕ = replicate (16 - length front) 0 in
+    let lf : length front ≡ n = length-map-range_with_len f 0 n in
+    let lb : length behind ≡ 16 - n = length-replicate (16 - length front) 0 ∙ ap {B = ℕ} (λ k. 16 - k) lf in
+    ap position (ext_get_or 0 xs (front ++ behind) (omega (arith, long, lf, lb, le, length-append front behind))
+    (λ q l. elim (cases_lt q n) [
+      | inl k ↦
+          h q (omega (arith, l, long)) ∙ ap {B = ℕ} (λ b. cond b (f q) 0) (lt-ltb q n k)
+          ∙ sym (get_or_append_left front behind 0 q (omega (arith, k, lf)) ∙ get_or-map-range_with_len f 0 n q q 0 k (omega arith))
+      | inr k ↦
+          h q (omega (arith, l, long)) ∙ ap {B = ℕ} (λ b. cond b (f q) 0) (le-ltb q n k)
+          ∙ sym (get_or-append_right front behind n q 0 lf k ∙ get_or-replicate (16 - length front) (q - n) 0 0 (omega (arith, l, long, k, lf)))
+    ]))
 
 -- what is counted only below n
 largest_cut : (f g : ℕ → ℕ) (n k : ℕ) → ((q : ℕ) → q < n → f q ≡ g q) → ((q : ℕ) → n ≤ q → f q ≡ 0) → largest f (n + k) ≡ largest g n
@@ -97,15 +105,6 @@ largest_grown A u x P p (suc n) =
     ap {B = ℕ} (λ v. max v (largest (handed A u x P p) n)) (handed_grown A u x P p n)
     ∙ ap {B = ℕ} (λ v. max (grown (weight A p) (mark_before A u x P p n)) v) (largest_grown A u x P p n)
     ∙ sym (grown_max (weight A p) (mark_before A u x P p n) (largest (mark_before A u x P p) n))
-
--- a place more
-pub place_more : {X : Type 0} (P : ℕ → X → Type 0) (xs : List X) (i : ℕ) (y d : X) → i < length xs → ((k : ℕ) → k < i → P k (get_or xs k d)) → P i y
-    → (k : ℕ) → k < i + 1 → P k (get_or (set xs i y) k d)
-place_more P xs i y d l h p k lt =
-    elim (cases_eq k i) [
-      | inl e ↦ subst (λ j. P j (get_or (set xs i y) j d)) (sym e) (subst (P i) (sym (get_or-set_same xs i y d l)) p)
-      | inr ne ↦ subst (P k) (sym (get_or-set_other xs i k y d ne)) (h k (omega (arith, ne)))
-    ]
 
 -- the step's marks all fit, or one does not
 pub all_fit : (c n : ℕ) (f : ℕ → ℕ) → ((k : ℕ) → k < n → f k ≤ c + 1) → fits c (map f (range_with_len 0 n)) ≡ true

@@ -1,5 +1,5 @@
 -- One round of pruning. Assumes nothing.
-use Rattle.std.proofs.Common.{◌≡◌, ℕ, zero, suc, ◌+◌, ◌<◌, Bool, true, false, cond, List, [], ◌∷◌, length, set, Some, None, Option, sym, refl, ap, ◌∙◌, subst, inl, inr, true≢false, arith, length-set, get_or-set_other, get_or-set_same}
+use Rattle.std.proofs.Common.{◌≡◌, ℕ, zero, suc, ◌+◌, ◌<◌, Bool, true, false, cond, List, [], ◌∷◌, length, set, Some, None, Option, sym, ap, ◌∙◌, subst, inl, inr, true≢false, arith, length-set, get_or-set_other}
 use mathlib.Core.Bool.{false≢true}
 use Rattle.std.proofs.lemmas.Bool.{cases_eq, cases_Bool}
 use Rattle.synthesis.specs.Safety.{link, flag, into, Keeping, Closed, Widest, trues}
@@ -10,10 +10,6 @@ pub record Pruning (C S : ℕ) (links : List (List (Option ℕ))) (before now : 
   pub long : length now ≡ length before
   pub closed : pruned ≡ false → (now ≡ before) × ((h : ℕ) → h < n → flag now h ≡ true → Keeping C S links (flag now) h)
   pub fewer : pruned ≡ true → trues now < trues before
-
-pub prune_none : (C S : ℕ) (links : List (List (Option ℕ))) (before : List Bool) → Pruning C S links before before false 0
-prune_none C S links before =
-    record { widest = λ w. w; long = refl; closed = λ _. (refl, λ h l. absurd (omega (arith, l))); fewer = λ e. absurd (false≢true e) }
 
 -- the one at n stays
 pub prune_stays : (C S : ℕ) (links : List (List (Option ℕ))) (before now : List Bool) (pruned : Bool) (n : ℕ) → (flag now n ≡ true → Keeping C S links (flag now) n)
@@ -63,10 +59,3 @@ pub flag_inside : (bs : List Bool) (h : ℕ) → flag bs h ≡ true → h < leng
 flag_inside [] h e = absurd (false≢true e)
 flag_inside (b ∷ bs) zero e = omega arith
 flag_inside (b ∷ bs) (suc h) e = let k = flag_inside bs h e in omega arith
-
-pub flag_more : (bs : List Bool) (n : ℕ) → n < length bs → ((k : ℕ) → k < n → flag bs k ≡ true) → (k : ℕ) → k < n + 1 → flag (set bs n true) k ≡ true
-flag_more bs n l h k lt =
-    elim (cases_eq k n) [
-      | inl e ↦ ap {B = Bool} (λ v. flag (set bs n true) v) e ∙ get_or-set_same bs n true false l
-      | inr ne ↦ get_or-set_other bs n k true false ne ∙ h k (omega (arith, ne, lt))
-    ]

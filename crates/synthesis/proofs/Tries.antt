@@ -3,7 +3,7 @@ use Rattle.std.proofs.Common.{◌≡◌, ℕ, suc, ◌+◌, ◌-◌, ◌<◌, �
 use mathlib.Core.Option.{Option, none, some}
 use Rattle.std.proofs.lemmas.List.{length-map, length-take-le}
 use Rattle.model.specs.Automaton.{Automaton}
-use Rattle.model.specs.Positions.{Position, Solution, found, none_found, too_crowded, reach, member, safe_part, start_position, found_in, try_from, solve}
+use Rattle.model.specs.Positions.{Position, Solution, found, too_crowded, reach, member, safe_part, start_position, found_in, try_from, solve}
 use Rattle.synthesis.specs.declared.position.Position.{Position as Stored}
 use Rattle.synthesis.specs.Tables.{view}
 use Rattle.synthesis.specs.Safety.{flag}
@@ -28,11 +28,6 @@ module _ (A : Automaton) (room : ℕ) where
   unfolding solve
   try_begins limit = let e : suc limit - 0 ≡ suc limit = omega arith in ap {B = Solution} (λ t. try_from A room t 0) e
 
-  pub try_crowded : (limit c : ℕ) → c ≤ limit → reach A c room ≡ none → try_from A room (suc limit - c) c ≡ too_crowded
-  try_crowded limit c h e =
-      let t : suc limit - c ≡ suc (limit - c) = omega arith in
-      ap {B = Solution} (λ n. try_from A room n c) t ∙ tried (limit - c) c ∙ ap {B = Solution} (seek (limit - c) c) e
-
   pub try_found : (limit c : ℕ) (L : List Position) → c ≤ limit → reach A c room ≡ some L → member (safe_part A L) (start_position A) ≡ true → try_from A room (suc limit - c) c ≡ found (found_in A c (safe_part A L))
   try_found limit c L h e m =
       let t : suc limit - c ≡ suc (limit - c) = omega arith in
@@ -48,9 +43,6 @@ module _ (A : Automaton) (room : ℕ) where
       ∙ ap {B = Solution} (try_from A room (limit - c)) (add-one c)
       ∙ sym (ap {B = Solution} (λ n. try_from A room n c) t ∙ tried (limit - c) c ∙ ap {B = Solution} (seek (limit - c) c) e
       ∙ ap {B = Solution} (λ b. elim b as (λ v. Solution) [ true ↦ found (found_in A c (safe_part A L)) | false ↦ try_from A room (limit - c) (suc c) ]) m)
-
-  pub try_ends : (limit c : ℕ) → limit < c → try_from A room (suc limit - c) c ≡ none_found
-  try_ends limit c h = let e : suc limit - c ≡ 0 = omega arith in ap {B = Solution} (λ n. try_from A room n c) e
 
   -- the start's flag tells whether the start is safe
   pub start_told : (c len : ℕ) (slots : List Stored) (links : List (List (Maybe ℕ))) (safe : List Bool) → len ≤ length slots → Surveyed A c room (Some len) slots links safe → 0 < len

@@ -1,7 +1,7 @@
 //! Positions as they are stored.
 
 /// A mark for each rule state: 0 where it is absent, t + 1 where it has the tally t. Behind the last rule state all marks are 0.
-#[derive(Clone, Copy)]
+#[derive(Clone, Copy, Debug, PartialEq, Eq)]
 pub struct Position {
     pub marks: [u8; 16],
 }

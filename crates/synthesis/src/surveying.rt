@@ -9,20 +9,9 @@ use crate::arrows::Arrows;
 use crate::graphs::Positions;
 use crate::position::Position;
 use crate::pruning::safe_part;
-use crate::stepping::{fits, start, step};
+use crate::stepping::fits;
 use search::breadth_first::explore;
 use search::graph::Graph;
-
-/// Whether all marks are equal. It looks at each, so that all are compared at once.
-fn same_marks(a: &[u8; 16], b: &[u8; 16]) -> bool
-    ensures { result ≡ same_marks a.now b.now }
-{
-    let mut same = true;
-    for i in 0..16usize {
-        same &= a[i] == b[i];
-    }
-    same
-}
 
 /// The successor with the number i is the step under the command i / 8 in the situation i % 8.
 impl Graph<64> for Positions<'_> {
@@ -33,14 +22,14 @@ impl Graph<64> for Positions<'_> {
     ghost successor = { λ g P i. candidate (automaton g.arrows.now) g.c (view g.arrows.now.states P) (i / 8) (i % 8) };
 
     fn same(&self, a: &Position, b: &Position) -> bool {
-        same_marks(&a.marks, &b.marks)
+        *a == *b
     }
 
     fn successor(&self, node: &Position, i: usize) -> Option<Position> {
         let command = (i / 8) as u8;
         let situation = (i % 8) as u8;
         if command < self.arrows.numbers.commands && situation < self.arrows.numbers.situations {
-            step(self.arrows, self.c, command, situation, node)
+            self.arrows.step(self.c, command, situation, node)
         } else {
             None
         }
@@ -60,7 +49,7 @@ fn reach(
     requires rows { length met.old ≤ length links.old }
     ensures { Reached (automaton arrows.now) c (length met.old) result met.new links.new }
 {
-    let first = start(arrows);
+    let first = arrows.start();
     if !fits(arrows.states, c, &first) {
         return Some(0);
     }

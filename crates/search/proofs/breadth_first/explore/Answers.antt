@@ -1,4 +1,4 @@
-use Rattle.std.proofs.Common.{◌≡◌, ℕ, ◌+◌, ◌-◌, ◌<◌, ◌≤◌, List, [], ◌∷◌, length, take, drop, set, sym, refl, ap, ◌∙◌, arith, rules, length-drop, length-set}
+use Rattle.std.proofs.Common.{◌≡◌, ℕ, ◌+◌, ◌-◌, ◌<◌, ◌≤◌, List, [], ◌∷◌, length, take, drop, set, sym, refl, ap, ◌∙◌, arith, length-drop, length-set}
 use Rattle.std.proofs.lemmas.List.{length-take-le, take_more_set, drop-take}
 use Rattle.std.proofs.lemmas.Bool.{lt-ltb}
 use Rattle.model.specs.Search.{fresh}
@@ -68,22 +68,6 @@ more g c =
     (take c.loop-node.len c.loop-node.met) (take c.in_ok-more.more c.spread.new.met) c.in-Some.node c.in_ok-more.ensures.nodes.1 in
     omega (arith, met_then g c)
 
-pub bounds-links-row : goal.bounds-links-row
-bounds-links-row g c = row_there g (goal.at.bounds-links-row g c).In-Some
-
-pub spread-requires : goal.spread-requires
-spread-requires g c =
-    let n = c.loop-node.invariant.0 ∙ length-set c.args.met.now 0 c.args.first.now in
-    record {
-      within = omega (arith, c.loop-node.invariant.0, c.loop-node.invariant.1);
-      linkable = omega (arith, n, c.requires.linkable);
-      row = search rules;
-      itself = c.requires.itself;
-    }
-
-pub shape_of-met-in_err-more : goal.shape_of-met-in_err-more
-shape_of-met-in_err-more g c = c.spread.auto.met ∙ c.loop-node.invariant.0 ∙ length-set c.args.met.now 0 c.args.first.now
-
 pub returns-in_err-more : goal.returns-in_err-more
 returns-in_err-more g c =
     let n = length-set c.args.met.now 0 c.args.first.now in
@@ -112,15 +96,6 @@ push_all-requires g c =
     let new : length (take (to - len) (drop len met)) ≡ to - len = length-take-le (to - len) (drop len met) (simp length-drop (omega arith)) in
     omega (arith, c.loop-node.invariant.3, c.spread.auto.met, c.loop-node.invariant.0)
 
-pub overflow_add-row : goal.overflow_add-row
-overflow_add-row g c =
-    let h = early g (goal.at.overflow_add-row g c).In-Some in
-    let n = length-set c.args.met.now 0 c.args.first.now in
-    omega (arith, c.loop-node.invariant.1)
-
-pub loop-node-smaller : goal.loop-node-smaller
-loop-node-smaller g c = let h = early g (goal.at.loop-node-smaller g c).In-Some in omega (arith, c.loop-node.invariant.1)
-
 pub loop-node-preserved : goal.loop-node-preserved
 loop-node-preserved g c =
     let len = c.loop-node.len in
@@ -148,9 +123,6 @@ loop-node-preserved g c =
           linked),
       omega (arith, c.push_all.ensures.slots, c.loop-node.invariant.3),
     )
-
-pub shape_of-met : goal.shape_of-met
-shape_of-met g c = c.loop-node.invariant.0 ∙ length-set c.args.met.now 0 c.args.first.now
 
 pub returns : goal.returns
 returns g c =

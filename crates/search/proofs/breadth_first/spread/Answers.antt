@@ -1,16 +1,9 @@
-use Rattle.std.proofs.Common.{◌≡◌, map, length, take, fold, ap, ◌∙◌, subst, arith, length-set}
+use Rattle.std.proofs.Common.{◌≡◌, map, length, take, fold, arith, length-set}
 use Rattle.std.specs.List.{range_with_len}
-use Rattle.search.specs.Meeting.{with_met, link_to, LinkedFrom}
-use Rattle.search.proofs.Links.{spreading_none, spreading_more}
+use Rattle.search.specs.Meeting.{with_met, link_to}
+use Rattle.search.proofs.Links.{spreading_more}
 use Rattle.search.proofs.OneByOne.{over_all}
 use Rattle.search.proofs.breadth_first.spread.Goals as goal
-
-pub loop-i-init : goal.loop-i-init
-loop-i-init g c = (
-  c.requires.within,
-  c.requires.row,
-  spreading_none (g.G.Graph.same c.args.graph.now) (g.G.Graph.successor c.args.graph.now) (take c.args.len c.args.met.now) c.args.node.now _,
-)
 
 pub returns-in_err-next : goal.returns-in_err-next
 returns-in_err-next g c =
@@ -40,16 +33,3 @@ loop-i-preserved g c =
       omega (arith, length-set c.loop-i.links i next.link, c.loop-i.invariant.1),
       spreading_more same successor before node c.requires.itself met met' c.loop-i.links i next.link c.loop-i.invariant.2 (omega (arith, c.loop-i.invariant.1)) em el,
     )
-
-pub returns : goal.returns
-returns g c =
-    let same = g.G.Graph.same c.args.graph.now in
-    let successor = g.G.Graph.successor c.args.graph.now in
-    let node = c.args.node.now in
-    let before = take c.args.len c.args.met.now in
-    let s = c.loop-i.invariant.2 in
-    let e : c.loop-i.i ≡ g.row.DEGREE = omega arith in
-    record {
-      nodes = (c.loop-i.invariant.0, s.met ∙ ap (λ n. fold (with_met same) before (map (successor node) (range_with_len 0 n))) e);
-      links = subst (λ n. LinkedFrom same successor (take c.loop-i.count c.loop-i.met) c.loop-i.links node n) e s.linked;
-    }

@@ -1,9 +1,6 @@
-use Rattle.std.proofs.Common.{map, sym, ap, ◌∙◌, subst, arith}
-use Rattle.std.proofs.lemmas.List.{take_all}
-use Rattle.model.specs.Rules.{beside, together}
+use Rattle.std.proofs.Common.{map, sym, ap, ◌∙◌, arith}
 use Rattle.rules.specs.declared.numbers.Numbers.{Numbers}
-use Rattle.synthesis.specs.Tables.{automaton, Agrees}
-use Rattle.synthesis.proofs.Gathered.{agrees_trans, agrees_none, joins_next, agrees_next, grows_from}
+use Rattle.synthesis.proofs.Gathered.{joins_next, agrees_next, grows_from}
 use Rattle.synthesis.proofs.gathering.gather.Goals as goal
 
 pub beside-arrows-requires : goal.beside-arrows-requires
@@ -27,27 +24,9 @@ beside-arrows-requires-in-loop-rule g c =
           c.loop-rule.arrows c.loop-rule.invariant.0;
     }
 
-pub loop-rule-init : goal.loop-rule-init
-loop-rule-init g c =
-    let H = g.R.Rule.meaning c.args.house.now in
-    let n = c.empty.ensures in (
-      agrees_trans (automaton c.beside-arrows.result) (beside (automaton c.empty.result) H) H c.beside-arrows.ensures.agrees
-          (agrees_none (automaton c.empty.result) H (ap (λ (m : Numbers). m.situations) n.numbers ∙ c.of.ensures.situations)
-          (ap (λ (m : Numbers). m.commands) n.numbers ∙ c.of.ensures.commands) n.states),
-      c.beside-arrows.ensures.some,
-    )
-
 pub loop-rule-preserved : goal.loop-rule-preserved
 loop-rule-preserved g c = (
   agrees_next (g.R.Rule.meaning c.args.house.now) g.T.Rule.meaning c.args.added.now c.requires.alike c.requires.room c.loop-rule.rule-index c.rule-item.result (omega arith) c.rule-item.is
       c.loop-rule.arrows c.beside-arrows-in-loop-rule.result c.loop-rule.invariant.0 c.beside-arrows-in-loop-rule.ensures.agrees,
   c.beside-arrows-in-loop-rule.ensures.some,
 )
-
-pub returns : goal.returns
-returns g c =
-    let H = g.R.Rule.meaning c.args.house.now in
-    let all = map g.T.Rule.meaning c.args.added.now in
-    let agrees : Agrees (automaton c.loop-rule.arrows) (together H all) =
-    subst (λ xs. Agrees (automaton c.loop-rule.arrows) (together H (map g.T.Rule.meaning xs))) (take_all c.loop-rule.rule-index c.args.added.now (omega arith)) c.loop-rule.invariant.0 in
-    record { agrees = agrees; some = c.loop-rule.invariant.1 }

@@ -1,10 +1,7 @@
-use Rattle.std.proofs.Common.{◌+◌, true, sym, subst, arith}
+use Rattle.std.proofs.Common.{◌+◌, true, sym, subst}
 use Rattle.synthesis.proofs.pruning.prune.Goals.{then-not-stays, else-not-stays}
-use Rattle.synthesis.proofs.Pruned.{Pruning, prune_none, prune_stays, prune_takes, flag_inside}
+use Rattle.synthesis.proofs.Pruned.{Pruning, prune_stays, prune_takes}
 use Rattle.synthesis.proofs.pruning.prune.Goals as goal
-
-pub loop-place-init : goal.loop-place-init
-loop-place-init c = prune_none c.args.numbers.commands c.args.numbers.situations c.args.links.now c.args.safe.now
 
 pub loop-place-preserved : goal.loop-place-preserved
 loop-place-preserved c =
@@ -23,12 +20,3 @@ loop-place-preserved c =
           subst (λ b. Pruning C S links before c.if-not-stays.safe b (c.loop-place.place + 1)) (sym w.pruned-is)
           (subst (λ v. Pruning C S links before v c.loop-place.pruned (c.loop-place.place + 1)) (sym w.safe-is) r))
     ]
-
-pub returns : goal.returns
-returns c =
-    let i = c.loop-place.invariant in
-    record {
-      widest = i.widest;
-      closed = λ e h f. let l = flag_inside c.loop-place.safe h f in (l, (i.closed e).1 h (omega (arith, l, i.long)) f);
-      fewer = i.fewer;
-    }

@@ -1,22 +1,16 @@
 use Rattle.std.proofs.Common.{◌≡◌, ◌-◌, ◌<◌, ◌≤◌, true, false, length, take, map, Some, sym, refl, ap, ◌∙◌, subst, inl, inr, arith, length-take}
-use mathlib.Core.Option.{none}
 use Rattle.std.proofs.lemmas.Bool.{cases_lt}
 use Rattle.std.proofs.lemmas.List.{take_all, get_or-take}
-use Rattle.model.specs.Positions.{reach, member, safe_part, start_position, found, found_in}
+use Rattle.model.specs.Positions.{member, safe_part, start_position, found, found_in}
 use Rattle.synthesis.specs.Tables.{automaton, view}
 use Rattle.synthesis.specs.Surveys.{shown, Surveyed}
 use Rattle.synthesis.proofs.Pruned.{flag_inside}
-use Rattle.synthesis.proofs.Tries.{try_begins, try_crowded, try_found, try_next, try_ends, start_told, start_lost}
+use Rattle.synthesis.proofs.Tries.{try_begins, try_found, try_next, start_told, start_lost}
 use Rattle.synthesis.proofs.Stored.{stores}
 use Rattle.synthesis.proofs.solving.solve_table.Goals as goal
 
 pub loop-c-init : goal.loop-c-init
 loop-c-init c = (try_begins (automaton c.args.arrows.now) (length c.args.met.now) c.args.limit, refl, refl)
-
-pub returns-in_default : goal.returns-in_default
-returns-in_default c =
-    let A = automaton c.args.arrows.now in
-    sym c.loop-c.invariant.0 ∙ try_crowded A (length c.args.met.now) c.args.limit c.loop-c.c (omega arith) (subst (λ r. reach A c.loop-c.c r ≡ none) c.loop-c.invariant.1 c.in_default.ensures)
 
 pub returns-then-is_safe : goal.returns-then-is_safe
 returns-then-is_safe c =
@@ -65,6 +59,3 @@ loop-c-preserved c =
           subst (λ n. member (safe_part A (shown A n met)) (start_position A) ≡ false) z (start_lost A room at met links safe))
     ] in
     (try_next A room c.args.limit at (shown A len met) (omega arith) s.0.1 m ∙ c.loop-c.invariant.0, c.look.auto.met ∙ c.loop-c.invariant.1, c.look.auto.safe ∙ c.loop-c.invariant.2)
-
-pub returns : goal.returns
-returns c = sym c.loop-c.invariant.0 ∙ try_ends (automaton c.args.arrows.now) (length c.args.met.now) c.args.limit c.loop-c.c (omega arith)

@@ -1,5 +1,5 @@
-use Rattle.std.proofs.Common.{◌≡◌, ◌+◌, ◌<◌, [], ◌∷◌, ◌++◌, length, take, ap, ◌∙◌, append_assoc, arith, length-append}
-use Rattle.std.proofs.lemmas.List.{take_more, take_all, length-take-le}
+use Rattle.std.proofs.Common.{◌≡◌, ◌+◌, ◌<◌, [], ◌∷◌, length, take, ap, ◌∙◌, append_assoc, arith, length-append}
+use Rattle.std.proofs.lemmas.List.{take_more, length-take-le}
 use Rattle.std.proofs.lemmas.Bool.{lt-ltb}
 use Rattle.search.specs.Waiting.{waiting}
 use Rattle.search.proofs.Ring.{length_waiting}
@@ -22,12 +22,3 @@ loop-item-preserved g c =
     let more = take_more items i item (omega arith) in
     let assoc = append_assoc before (take i items) (item ∷ []) in
     (cc, c.push.ensures.slots ∙ inv.1, c.push.ensures.lender ∙ inv.2)
-
-pub returns : goal.returns
-returns g c =
-    let inv = c.loop-item.invariant in
-    record {
-      pushed = inv.0 ∙ ap (λ xs. waiting c.args.self.now.slots.now c.args.self.now.head c.args.self.now.len ++ xs) (take_all c.loop-item.item-index c.args.items.now (omega arith));
-      slots = inv.1;
-      lender = inv.2;
-    }

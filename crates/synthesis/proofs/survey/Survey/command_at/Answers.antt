@@ -6,9 +6,6 @@ use Rattle.synthesis.proofs.Pruned.{flag_inside}
 use Rattle.synthesis.proofs.Together.{command_told}
 use Rattle.synthesis.proofs.survey.Survey.command_at.Goals as goal
 
-pub lowest_command-requires : goal.lowest_command-requires
-lowest_command-requires c = flag_inside c.args.self.now.safe.now c.args.place c.requires
-
 pub returns : goal.returns
 returns c =
     let v = c.args.self.now in

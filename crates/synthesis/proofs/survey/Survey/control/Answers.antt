@@ -22,15 +22,6 @@ sized len room safe states hf hs e b =
     let lr : length (take (room - 0) states) ≡ room - 0 = length-take-le (room - 0) states (omega (arith, few, e, hf)) in
     (omega (arith, inside, hf), omega (arith, pos, e), omega (arith, few, e, hf), omega (arith, lr), take_all len safe (omega (arith, hf)))
 
-pub number-requires : goal.number-requires
-number-requires c =
-    let v = c.args.self.now in
-    let k = sized (length v.met.now) c.count-room.result v.safe.now c.args.places.now v.flags c.requires.room.0 (c.count-room.ensures ∙ trues_counted v.safe.now) c.requires.start in
-    let a = k.1 in
-    let b = k.2 in
-    let d = k.3 in
-    record { room = (omega (arith, a, d), (omega (arith, b, d, c.requires.few), omega (arith, b, d, c.requires.room.1.0))); rows = omega (arith, b, d, c.requires.room.1.1) }
-
 pub returns : goal.returns
 returns c =
     let v = c.args.self.now in
