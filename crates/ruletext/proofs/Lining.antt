@@ -11,7 +11,7 @@ use Rattle.model.specs.Reading.{Part, part, wrong, first_line, SoFar, nothing, o
 use Rattle.model.proofs.Reading.Parts.{line_exact}
 use Rattle.rules.specs.declared.numbers.Numbers.{Numbers}
 use Rattle.ruletext.specs.declared.so_far.Reading.{Reading as Text}
-use Rattle.ruletext.specs.Standing.{Stands, Takes, Taken, going, stopped, take_line}
+use Rattle.ruletext.specs.Standing.{Stands, Takes, on, step, Taken, going, stopped, take_line}
 
 -- ONE LINE
 
@@ -29,6 +29,10 @@ line_shorter bytes l j rest e =
     let b = length-append (line_bytes l) rest in
     let c = some_bytes l in
     omega arith
+
+pub taken_on : (S C line : ℕ) (m : SoFar) (bytes : List ℕ) (l : Line) (j : ℕ) (rest : List ℕ) → first_line bytes ≡ part l j rest
+    → (next : SoFar) → step S C line m l ≡ on next → take_line S C line m bytes ≡ going next rest
+taken_on S C line m bytes l j rest e next d = cc
 
 -- ALL LINES
 
@@ -110,11 +114,12 @@ module _ (given : Numbers) (text : List ℕ) (now : Text) (rest : List ℕ) (t :
       t.place ∙ ap (λ n. read_lines S C n now.line t.come rest) (sym s.1) ∙ ap (λ z. read_lines S C (suc k) now.line t.come z) s.4
       ∙ line_stopped S C k now.line t.come b bs f (subst (λ z. take_line S C now.line t.come z ≡ stopped f) s.4 (at_given (stopped f) e))
 
-  pub lining_more : (after : Text) (behind : Bor (List ℕ)) → 0 < length rest → after.numbers ≡ now.numbers → after.line ≡ now.line + 1 → length behind.now < length rest
-      → Takes now t.come rest after (Ok behind) → Lining given text after behind.now
-  lining_more after behind h kept next shorter taken =
-      let m = taken.0 in
-      let e = at_given (going m behind.now) taken.1 in
+  pub lining_more : (after : Text) (behind : Bor (List ℕ)) → 0 < length rest → Takes now t.come rest after (Ok behind) → Lining given text after behind.now
+  lining_more after behind h taken =
+      let m = taken.3.0 in
+      let next = taken.1 in
+      let shorter = taken.2 in
+      let e = at_given (going m behind.now) taken.3.1 in
       let s = more S C rest t.turns refl refl h (going m behind.now) e in
       let k = s.0 in
       let b = s.2 in
@@ -122,7 +127,7 @@ module _ (given : Numbers) (text : List ℕ) (now : Text) (rest : List ℕ) (t :
       let a = t.short in
       let n = t.enough in
       record {
-        same = kept ∙ t.same;
+        same = taken.0 ∙ t.same;
         come = m;
         turns = k;
         enough = omega (arith, s.1);
@@ -130,6 +135,6 @@ module _ (given : Numbers) (text : List ℕ) (now : Text) (rest : List ℕ) (t :
             t.place ∙ ap (λ n. read_lines S C n now.line t.come rest) (sym s.1) ∙ ap (λ z. read_lines S C (suc k) now.line t.come z) s.4
             ∙ line_going S C k now.line t.come b bs m behind.now (subst (λ z. take_line S C now.line t.come z ≡ going m behind.now) s.4 e)
             ∙ ap (λ n. read_lines S C k n m behind.now) (sym (next ∙ add-one now.line));
-        stands = taken.2;
+        stands = taken.3.2;
         short = omega arith;
       }

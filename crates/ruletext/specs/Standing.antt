@@ -1,5 +1,5 @@
 -- How far the lines of a text have come, as the code and as the model have it.
-use Rattle.std.specs.Prelude.{◌≡◌, ℕ, ◌<◌, not, List, length, false, Ok, Err, Result}
+use Rattle.std.specs.Prelude.{◌≡◌, ℕ, ◌+◌, ◌<◌, not, List, length, false, Ok, Err, Result}
 use Rattle.std.specs.Borrow.{Bor}
 use Rattle.std.proofs.Math.Option.{none, some}
 use Rattle.model.specs.declared.fault.LineFault.{LineFault}
@@ -58,9 +58,11 @@ step S C line m l =
           elim (first (λ k. not (inside k)) (numbers S C (states_so_far next) l)) [ some k ↦ off (Range line k.at) | none ↦ on next ]
     ]
 
--- the code's answer to one more line is the model's, and it then has what the model has
+-- the code's answer to one more line is the model's, and it then has what the model has, for the same numbers and line
 abbrev pub Steps : Text → SoFar → Line → Text → Result (Unit {0}) LineFault → Type 0
-Steps r m l after (Ok _) = (next : SoFar) × (step r.numbers.situations r.numbers.commands r.line m l ≡ on next) × Stands after next
+Steps r m l after (Ok _) =
+    (after.numbers ≡ r.numbers) × (after.line ≡ r.line)
+    × ((next : SoFar) × (step r.numbers.situations r.numbers.commands r.line m l ≡ on next) × Stands after next)
 Steps r m l after (Err f) = step r.numbers.situations r.numbers.commands r.line m l ≡ off f
 
 -- the first line of the bytes: how far the lines come with it, and the bytes behind it; or its fault
@@ -75,10 +77,12 @@ take_line S C line m bytes =
       | part l length rest ↦ elim (step S C line m l) [ on next ↦ going next rest | off f ↦ stopped f ]
     ]
 
--- the code's answer to the bytes of one more line is the model's, and it then has what the model has
+-- the code's answer to the bytes of one more line is the model's, and it then has what the model has, for the same numbers and the next
+-- line: a byte or more is taken
 abbrev pub Takes : Text → SoFar → List ℕ → Text → Result (Bor (List ℕ)) LineFault → Type 0
 Takes r m bytes after (Ok rest) =
-    (next : SoFar) × (take_line r.numbers.situations r.numbers.commands r.line m bytes ≡ going next rest.now) × Stands after next
+    (after.numbers ≡ r.numbers) × (after.line ≡ r.line + 1) × (length rest.now < length bytes)
+    × ((next : SoFar) × (take_line r.numbers.situations r.numbers.commands r.line m bytes ≡ going next rest.now) × Stands after next)
 Takes r m bytes after (Err f) = take_line r.numbers.situations r.numbers.commands r.line m bytes ≡ stopped f
 
 -- the code's answer to all lines is the model's, up to what is looked at behind the last

@@ -1,6 +1,6 @@
 //! How far the lines of a text have come: n, s and r once each, in this order, before all t lines.
 
-ghost use Rattle.std.specs.Prelude.{◌≡◌, ◌+◌, ◌<◌, ◌^◌, length, IfOk};
+ghost use Rattle.std.specs.Prelude.{◌≡◌, ◌+◌, ◌<◌, ◌^◌, length};
 ghost use Rattle.model.specs.Reading.{SoFar as Model, nothing};
 
 use crate::line::{Line, first_line};
@@ -49,8 +49,7 @@ impl Reading {
 
     // The line that comes first: an n line.
     fn add_name(&mut self, words: Line) -> Result<(), LineFault>
-        ensures kept { (self.new.numbers ≡ self.old.numbers) × (self.new.line ≡ self.old.line) }
-        ensures steps { (m : Model) → StandsAt far.Nothing self.old m → Steps self.old m (line_of words.entry) self.new result }
+        ensures { (m : Model) → StandsAt far.Nothing self.old m → Steps self.old m (line_of words.entry) self.new result }
     {
         let Line::Name(name) = words else {
             return Err(LineFault::Order { line: self.line });
@@ -61,8 +60,7 @@ impl Reading {
 
     // The line behind the n line: an s line.
     fn add_size(&mut self, name: Name, words: Line) -> Result<(), LineFault>
-        ensures kept { (self.new.numbers ≡ self.old.numbers) × (self.new.line ≡ self.old.line) }
-        ensures steps { (m : Model) → StandsAt (far.Named name) self.old m → Steps self.old m (line_of words.entry) self.new result }
+        ensures { (m : Model) → StandsAt (far.Named name) self.old m → Steps self.old m (line_of words.entry) self.new result }
     {
         let Line::Size(size) = words else {
             return Err(LineFault::Order { line: self.line });
@@ -75,8 +73,7 @@ impl Reading {
 
     // The line behind the s line: an r line.
     fn add_rejecting(&mut self, name: Name, states: States, words: Line) -> Result<(), LineFault>
-        ensures kept { (self.new.numbers ≡ self.old.numbers) × (self.new.line ≡ self.old.line) }
-        ensures steps { (m : Model) → StandsAt (far.Sized name states) self.old m → Steps self.old m (line_of words.entry) self.new result }
+        ensures { (m : Model) → StandsAt (far.Sized name states) self.old m → Steps self.old m (line_of words.entry) self.new result }
     {
         let Line::Rejects(rejects) = words else {
             return Err(LineFault::Order { line: self.line });
@@ -94,8 +91,7 @@ impl Reading {
 
     // Every further line: a t line.
     fn add_arrows(&mut self, name: Name, states: States, words: Line) -> Result<(), LineFault>
-        ensures kept { (self.new.numbers ≡ self.old.numbers) × (self.new.line ≡ self.old.line) }
-        ensures steps { (m : Model) → StandsAt (far.Full name states) self.old m → self.old.so_far ≡ far.Full name states → Steps self.old m (line_of words.entry) self.new result }
+        ensures { (m : Model) → StandsAt (far.Full name states) self.old m → self.old.so_far ≡ far.Full name states → Steps self.old m (line_of words.entry) self.new result }
     {
         let Line::Arrows(arrows) = words else {
             return Err(LineFault::Order { line: self.line });
@@ -112,8 +108,7 @@ impl Reading {
 
     // One more line, if it comes next and its numbers are in range.
     fn add(&mut self, words: Line) -> Result<(), LineFault>
-        ensures kept { (self.new.numbers ≡ self.old.numbers) × (self.new.line ≡ self.old.line) }
-        ensures steps { (m : Model) → Stands self.old m → Steps self.old m (line_of words.entry) self.new result }
+        ensures { (m : Model) → Stands self.old m → Steps self.old m (line_of words.entry) self.new result }
     {
         match self.so_far {
             SoFar::Nothing => self.add_name(words),
@@ -125,11 +120,9 @@ impl Reading {
 
     // The first line of the text, which is one more: the text behind it.
     fn take<'a>(&mut self, text: &'a [u8]) -> Result<&'a [u8], LineFault>
-        requires { self.old.line + length text.now < 2 ^ 64 }
-        ensures kept { self.new.numbers ≡ self.old.numbers }
-        ensures line { IfOk result (λ _. self.new.line ≡ self.old.line + 1) }
-        ensures shorter { IfOk result (λ rest. length rest.now < length text.now) }
-        ensures takes { (m : Model) → Stands self.old m → Takes self.old m text.now self.new result }
+        requires room { self.old.line + length text.now < 2 ^ 64 }
+        requires stands { (m : Model) × Stands self.old m }
+        ensures { (m : Model) → Stands self.old m → Takes self.old m text.now self.new result }
     {
         let (words, rest) = first_line(text, self.line)?;
         self.add(words)?;

@@ -17,8 +17,8 @@ connect-requires-clause-fits c =
     let l = arrows_below given.situations given.commands states.count a (sym c.in_default-outside_arrows.ensures) in
     omega (arith, l.from)
 
-pub returns-clause-steps : goal.returns-clause-steps
-returns-clause-steps c =
+pub returns : goal.returns
+returns c =
     let before = c.args.self.now in
     let after = c.connect.new.self in
     let S = before.numbers.situations in
@@ -32,9 +32,13 @@ returns-clause-steps c =
     λ m standing so_far.
     let r = standing.0 in
     let d = standing.2 in (
-      full (with_arrows r a),
-      ap (λ z. step S C before.line z (line_of c.args.words)) standing.1 ∙ ap (λ w. step S C before.line (full r) (line_of w)) c.in-Arrows.is
-          ∙ step_on S C before.line (full r) (full (with_arrows r a)) (t_line a) refl (subst (λ z. first_outside (numbers S C z (t_line a)) ≡ None) (sym d.counts) none),
-      subst (λ z. StandsAt z (record before { table = after }) (full (with_arrows r a))) (sym so_far)
-          (with_arrows r a, refl, arrows_drafted S C name n q before.table.rejecting after.rejecting before.table.arrows after.arrows r a d none c.connect.ensures.added c.connect.ensures.same),
+      refl,
+      refl,
+      (
+        full (with_arrows r a),
+        ap (λ z. step S C before.line z (line_of c.args.words)) standing.1 ∙ ap (λ w. step S C before.line (full r) (line_of w)) c.in-Arrows.is
+            ∙ step_on S C before.line (full r) (full (with_arrows r a)) (t_line a) refl (subst (λ z. first_outside (numbers S C z (t_line a)) ≡ None) (sym d.counts) none),
+        subst (λ z. StandsAt z (record before { table = after }) (full (with_arrows r a))) (sym so_far)
+            (with_arrows r a, refl, arrows_drafted S C name n q before.table.rejecting after.rejecting before.table.arrows after.arrows r a d none c.connect.ensures.added c.connect.ensures.same),
+      ),
     )
