@@ -130,6 +130,8 @@ struct Parser<'a> {
     words: Words<'a>,
 }
 
+// Each method says that the line stays: what is behind `&mut self` may change in a call, and no type can say what it was before.
+
 impl<'a> Parser<'a> {
     // The number that the next word denotes, if it is not above `most`.
     fn number_to(&mut self, most: u16) -> Result<u16, BadLine>

@@ -1,17 +1,15 @@
 -- When a rule may be added. Assumes nothing.
-use Rattle.std.proofs.Common.{◌≡◌, ℕ, ◌+◌, ◌<◌, ◌≤◌, Bool, true, false, ◌&&◌, eqb, ltb, leb, List, [], ◌∷◌, ◌++◌, length, Ok, Err, vec_items, Result, sym, refl, ap, ◌∙◌, arith}
-use Rattle.std.proofs.lemmas.Bool.{and_parts, ltb-true, leb-true}
+use Rattle.std.proofs.Common.{◌≡◌, ℕ, ◌+◌, ◌<◌, ◌≤◌, true, ◌&&◌, eqb, List, [], ◌∷◌, ◌++◌, length, Ok, Err, vec_items, refl, ap, arith}
 use Rattle.model.specs.declared.refusal.Refusal.{Refusal}
-use Rattle.model.specs.declared.refusal.Refusal.TheVariants.{UnlikeRule, NameTaken, NoRoom}
+use Rattle.model.specs.declared.refusal.Refusal.TheVariants.{UnlikeRule}
 use Rattle.model.specs.Automaton.{Automaton}
-use Rattle.model.specs.Lists.{any}
 use Rattle.model.specs.Text.{Named, ReadRule as Rule, blank, filled}
-use Rattle.model.specs.Sheet.{Sheet, same_name, rules, with_added, add_to, Outcome, answers, done, refused}
+use Rattle.model.specs.Sheet.{Sheet, with_added, add_to, Outcome, answers, done, refused}
 use Rattle.ruletext.specs.declared.rule.ReadRule.{ReadRule}
 use Rattle.synthesis.specs.Tables.{automaton}
 use Rattle.sheet.specs.declared.page.Page.{Page}
 use Rattle.sheet.specs.Shows.{Shows}
-use Rattle.sheet.specs.Added.{has_that_name, states_of, admission}
+use Rattle.sheet.specs.Added.{states_of, admission}
 use Rattle.sheet.proofs.Paging.{rules_agree, same_any, same_length}
 
 module _ (H : Automaton) (kept : List ReadRule) where

@@ -1,5 +1,5 @@
 -- Write and check on a page, as on the sheet that it stands for. Assumes nothing.
-use Rattle.std.proofs.Common.{◌≡◌, ℕ, ◌-◌, Bool, true, false, cond, leb, List, map, length, take, Some, Ok, Err, vec_items, Option as Optional, Result, sym, refl, ap, ◌∙◌, subst, arith}
+use Rattle.std.proofs.Common.{◌≡◌, ℕ, ◌-◌, Bool, true, false, leb, List, map, length, take, Some, vec_items, Option as Optional, Result, sym, refl, ap, ◌∙◌, subst, arith}
 use Rattle.model.specs.declared.refusal.Refusal.{Refusal}
 use Rattle.model.specs.declared.refusal.Refusal.TheVariants.{ShortBuffer}
 use Rattle.model.specs.Automaton.{Automaton, Row}

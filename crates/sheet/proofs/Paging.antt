@@ -1,12 +1,11 @@
 -- What a page that stands for a sheet has in common with it. Assumes nothing.
-use Rattle.std.proofs.Common.{◌≡◌, ℕ, ◌≤◌, Bool, true, false, cond, not, eqb, List, [], ◌∷◌, ◌++◌, map, length, Some, None, vec_items, sym, refl, ap, ◌∙◌, subst, arith}
+use Rattle.std.proofs.Common.{◌≡◌, ℕ, Bool, true, false, not, List, [], ◌∷◌, ◌++◌, map, length, vec_items, sym, refl, ap, subst, arith}
 use Rattle.std.specs.List.{filter, AllByRecursion as All}
-use Rattle.std.proofs.lemmas.Bool.{eqb-true, and_parts}
 use Rattle.model.specs.declared.refusal.Refusal.TheVariants.{NoSuchName}
 use Rattle.model.specs.Automaton.{Automaton}
 use Rattle.model.specs.Lists.{any, every}
 use Rattle.model.specs.Rules.{beside, together}
-use Rattle.model.specs.Text.{Named, ReadRule as Rule, filled, rule_meaning}
+use Rattle.model.specs.Text.{Named, filled, rule_meaning}
 use Rattle.model.specs.Sheet.{Sheet, same_name, rules, with_added, withdraw_from, Outcome, Answer, answers, done, refused}
 use Rattle.ruletext.specs.declared.rule.ReadRule.{ReadRule}
 use Rattle.ruletext.specs.View.{view, name_of}
@@ -14,7 +13,6 @@ use Rattle.synthesis.specs.Tables.{automaton, Agrees, Alike}
 use Rattle.synthesis.proofs.Gathered.{beside_agrees}
 use Rattle.sheet.specs.Added.{meaning, has_that_name, is_for}
 use Rattle.sheet.specs.declared.page.Page.{Page}
-use Rattle.sheet.specs.declared.stored.Stored.{Stored}
 use Rattle.sheet.specs.Shows.{Shows}
 
 -- RULES THAT ARE KEPT AS THOSE OF THE DEFINITIONS
