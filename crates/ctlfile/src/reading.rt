@@ -8,6 +8,7 @@ ghost use Rattle.ctlfile.specs.Windows.{shown};
 use crate::window::Window;
 
 /// The mark that a byte of a certificate stands for: 0 for FF, absent, else the tally and 1.
+// The file has FF for absent, and the definitions have 0: an option between the two would be read from one and turned into the other.
 fn mark_of(byte: u8) -> u8
     ensures { result ≡ byte_mark byte }
 {

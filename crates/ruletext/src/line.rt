@@ -11,6 +11,7 @@ use crate::token::{Class, Cursor, Token};
 use model::fault::WordFault;
 
 /// A digit, or `*` for every one.
+// No `Option<u8>`: its `None` would read as no number, and `*` is every one.
 #[derive(Clone, Copy)]
 pub enum Choice {
     One(u8),

@@ -13,6 +13,7 @@ use rules::Rule;
 use synthesis::state::State;
 
 /// The command of a state; 0 if there is no such state.
+// No `Option`: the definition says 0 of a state that is not there.
 pub fn command_at(states: &[State], state: usize) -> u8
     ensures { (S : ℕ) → result ≡ (slice_index_or (map (row_of S) states.now) state no_row).command }
 {
