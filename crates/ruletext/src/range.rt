@@ -24,7 +24,7 @@ fn first_too_large(words: &[[u8; 2]], states: u8) -> Option<usize>
 }
 
 /// The byte of the first state that is not below `states`, if there is one. The first word's digit stands at byte `at`.
-pub fn outside(words: &[[u8; 2]], states: u8, at: usize) -> Option<usize>
+pub(crate) fn outside(words: &[[u8; 2]], states: u8, at: usize) -> Option<usize>
     requires { at + 2 * length words.now < 2 ^ 64 }
     ensures { result ≡ first_outside (state_numbers states at (states_in words.entry)) }
 {
@@ -61,7 +61,7 @@ impl States {
 }
 
 /// The byte of the first number of a t line that is out of range, if there is one.
-pub fn outside_arrows(arrows: Arrows, states: u8, numbers: Numbers) -> Option<usize>
+pub(crate) fn outside_arrows(arrows: Arrows, states: u8, numbers: Numbers) -> Option<usize>
     ensures { result ≡ first_outside (line_numbers numbers.situations numbers.commands states (arrows_line arrows.entry)) }
 {
     if arrows.from >= states {

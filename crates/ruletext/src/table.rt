@@ -126,7 +126,7 @@ impl Table {
     }
 
     /// Adds the line's arrows: under each command and in each situation that it names, to all its followers.
-    pub fn connect(&mut self, line: Arrows, numbers: Numbers)
+    pub(crate) fn connect(&mut self, line: Arrows, numbers: Numbers)
         requires fits { line.from < 8 }
         requires named { (below numbers.commands (picked line.command) ≡ true) × (below numbers.situations (picked line.situation) ≡ true) }
         ensures added { Adds self.old.arrows self.new.arrows (λ q u x p. has_arrow numbers.situations numbers.commands q u x p (arrows_of line.entry)) }

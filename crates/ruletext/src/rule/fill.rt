@@ -18,7 +18,7 @@ impl Reading {
     {
         let line = self.line;
         let SoFar::Full(name, states) = self.so_far else {
-            return Err(ReadFault::Line(LineFault::Order { line }));
+            return Err(LineFault::Order { line }.into());
         };
         if !all_reached(&self.table, states) {
             return Err(ReadFault::Unreached { line });
