@@ -58,6 +58,8 @@ pub struct BySituation {
     pub situations: [StateSet; 8],
 }
 
+// By number, here and below: of what `iter_mut` lends a proof knows nothing afterwards.
+
 impl BySituation {
     // Adds the states, in each situation that is chosen.
     fn add(&mut self, chosen: Choice, numbers: Numbers, states: StateSet)

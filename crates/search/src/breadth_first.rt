@@ -76,6 +76,7 @@ fn spread<const DEGREE: usize, G: Graph<DEGREE>>(
     ensures links { IfSome result (λ n. LinkedFrom (G.Graph.same graph.now) (G.Graph.successor graph.now) (take n met.new) links.new node.now DEGREE) }
 {
     let mut count = len;
+    // By number: a number names a successor and its link, and a link that an iterator lends is not known afterwards.
     for i in 0..DEGREE {
         let next = meet(graph, met, count, graph.successor(node, i))?;
         count = next.len;

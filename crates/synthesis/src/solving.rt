@@ -18,6 +18,7 @@ use crate::workspace::Workspace;
 use rules::Rule;
 
 /// Looks for a controller of the least count, in lent tables with as many slots for positions as the capacity.
+// The tables one by one: of a slice that a struct's field lends to be read, a proof knows the length and no element.
 fn solve_table(
     arrows: &Arrows,
     limit: u8,

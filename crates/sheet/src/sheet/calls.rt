@@ -58,6 +58,8 @@ impl<R: Rule> Sheet<R> {
         Sheet { house, page }
     }
 
+    // Every call hands on to the page, each to another of its methods: one function with a closure would be asked for each contract again.
+
     /// Adds a rule that was read behind the others. The rule is used up, also if it is refused.
     pub fn add(&mut self, rule: ReadRule) -> Result<(), Refusal>
         ensures { Responds self.old (add_call (view rule)) (settled result) self.new }
