@@ -30,7 +30,10 @@ impl Graph<8> for Chosen<'_> {
             return None;
         }
         match self.lowest_command(place) {
-            Some(command) => self.links[place][command as usize * 8 + i],
+            Some(command) => {
+                let link = command as usize * 8 + i;
+                self.links[place][link]
+            }
             None => None,
         }
     }
