@@ -18,6 +18,7 @@ use script::bytes::Source;
 use script::lines::Lines;
 use script::parse;
 use script::parse::{Command, Fault, Setup, Text};
+use sheet::sheet::calls::look;
 use std::alloc::{AllocError, Global};
 use std::io::Write;
 use std::{fs, io};
@@ -39,22 +40,21 @@ fn load(rt: &HostRuntime, source: Source) -> io::Result<Vec<u8>> {
 
 // Whether a controller can be generated: the numbers and the capacity, the house rule, and the limit are looked at in this order.
 #[tactic(auto, unfolding(model::specs::Sheet::look))]
-fn look(setup: &Setup) -> Result<Numbers, Refusal>
+fn generates(setup: &Setup) -> Result<Numbers, Refusal>
     ensures solvable { IfOk result (λ _. Solvable (meaning_of setup.now.house) setup.now.capacity setup.now.limit) }
     ensures numbers { IfOk result (λ n. (n.situations ≡ setup.now.situations) × (n.commands ≡ setup.now.commands)) }
     ensures refused { IfErr result (λ r. Unsolvable setup.now r) }
 {
-    let numbers = Numbers::within(setup.situations, setup.commands).ok_or(Refusal::OutOfRange)?;
-    if !(1..=1024).contains(&setup.capacity) {
-        return Err(Refusal::OutOfRange);
-    }
-    if setup.house.states() > 12 || Numbers::of(&setup.house) != numbers {
-        return Err(Refusal::HouseRule);
-    }
+    look(
+        &setup.house,
+        setup.situations,
+        setup.commands,
+        setup.capacity,
+    )?;
     if setup.limit > 14 {
         return Err(Refusal::OverLimit);
     }
-    Ok(numbers)
+    Ok(Numbers::of(&setup.house))
 }
 
 /// Writes answers.
@@ -166,7 +166,7 @@ impl<'a, W: Write> Answers<'a, W> {
 
     // Generates a controller for the house rule alone, and writes it or why there is none.
     fn generate(&mut self, setup: Setup) -> io::Result<()> {
-        let numbers = match look(&setup) {
+        let numbers = match generates(&setup) {
             Ok(numbers) => numbers,
             Err(refusal) => return self.refuse(refusal),
         };

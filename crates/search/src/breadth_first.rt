@@ -23,6 +23,9 @@ pub fn find<const DEGREE: usize, G: Graph<DEGREE>>(
     )
 }
 
+// The slice of those met and their number go side by side: of a slice that a struct's field lends to be read, a proof knows the length and
+// no element.
+
 /// How many nodes are met, and the link to the one just met.
 #[derive(Clone, Copy)]
 struct Met {

@@ -17,6 +17,7 @@ pub struct Positions<'a> {
 ///
 /// The links of a place lie in a row of 64: under the command u, the situation x leads to the link u * 8 + x. Where there is none, or
 /// it is no safe place, it leads out of the set.
+// One row and no table of eight by eight: the search writes a row, a link for each number of a successor.
 #[derive(Clone, Copy)]
 pub struct Chosen<'a> {
     pub numbers: Numbers,

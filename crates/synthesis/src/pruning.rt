@@ -1,7 +1,7 @@
 //! The largest safe set in a table of links, and the lowest command that stays in it.
 
-ghost use Rattle.std.specs.Prelude.{◌≡◌, ℕ, ◌<◌, ◌≤◌, true, false, length};
-ghost use Rattle.synthesis.specs.Safety.{flag, into, Keeping, Closed, Widest, Safest, trues, stays_under, lowest_kept};
+ghost use Rattle.std.specs.Prelude.{◌≡◌, ℕ, ◌<◌, ◌≤◌, true, false, length, MatchOption};
+ghost use Rattle.synthesis.specs.Safety.{flag, Holding, into, Keeping, Closed, Widest, Safest, trues, stays_under, lowest_kept};
 
 use crate::graphs::Chosen;
 use rules::Numbers;
@@ -36,13 +36,22 @@ impl Chosen<'_> {
         ))
     }
 
-    /// The lowest command under which every situation leads into the set.
+    /// The first command that holds.
     #[tactic(auto, unfolding(crate::specs::Safety::lowest_kept))]
-    pub fn lowest_command(&self, place: usize) -> Option<u8>
+    fn first_to_hold(&self, place: usize) -> Option<u8>
         requires { place < length self.now.safe.now }
         ensures { result ≡ lowest_kept self.now.numbers.commands self.now.numbers.situations self.now.links.now self.now.safe.now place }
     {
         (0..self.numbers.commands).find(|command| self.holds(place, *command))
+    }
+
+    /// The lowest command under which every situation leads into the set.
+    pub fn lowest_command(&self, place: usize) -> Option<u8>
+        requires { place < length self.now.safe.now }
+        ensures lowest { MatchOption result ((u : ℕ) → u < self.now.numbers.commands → Holding self.now.numbers.situations self.now.links.now (flag self.now.safe.now) place u → ⊥) (λ u. (u < self.now.numbers.commands) × Holding self.now.numbers.situations self.now.links.now (flag self.now.safe.now) place u × ((v : ℕ) → v < u → Holding self.now.numbers.situations self.now.links.now (flag self.now.safe.now) place v → ⊥)) }
+        ensures value { result ≡ lowest_kept self.now.numbers.commands self.now.numbers.situations self.now.links.now self.now.safe.now place }
+    {
+        self.first_to_hold(place)
     }
 
     /// Whether the place is not in the set, or some command keeps it there.

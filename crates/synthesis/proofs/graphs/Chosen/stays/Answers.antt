@@ -25,7 +25,7 @@ returns-else-not-self-place c =
     let links = g.links.now in
     let t = flag g.safe.now in
     let o = c.lowest_command.result in
-    let told = subst (λ v. Told C S links t c.args.place v) (sym c.lowest_command.ensures) (kept S links g.safe.now c.args.place C) in
+    let told : Told C S links t c.args.place o = c.lowest_command.ensures.lowest in
     record {
       kept = λ e _. some_keeps C S links t c.args.place o told (sym c.is_some.ensures ∙ e);
       lost = λ e. (c.if-not-self-place.false, none_keeps C S links t c.args.place o told (sym c.is_some.ensures ∙ e));
