@@ -1,17 +1,8 @@
 -- A part of a file that is filled from its front, piece by piece. Assumes nothing.
-use Rattle.std.proofs.Common.{◌≡◌, ℕ, ◌+◌, ◌<◌, ◌≤◌, List, [], ◌∷◌, ◌++◌, length, get_or, take, sym, ap, ◌∙◌, append-nil, arith}
+use Rattle.std.proofs.Common.{◌≡◌, ℕ, ◌+◌, ◌≤◌, List, ◌++◌, length, take, sym, ap, ◌∙◌, arith}
 use borrow.Rule.Slice.PartMut.{put_mid}
-use Rattle.std.proofs.lemmas.List.{take_more, take_all}
+use Rattle.std.proofs.lemmas.List.{take_all}
 use Rattle.std.proofs.lemmas.Slice.{take-put_mid}
-use Rattle.model.specs.Lists.{joined}
-use Rattle.model.proofs.Lists.{joined_append}
-
--- the lists of one more
-pub joined_step : {X : Type 0} (f : X → List ℕ) (xs : List X) (i : ℕ) (d : X) → i < length xs → joined f (take (i + 1) xs) ≡ joined f (take i xs) ++ f (get_or xs i d)
-joined_step {X} f xs i d h =
-    ap {B = List ℕ} (joined f) (take_more xs i d h)
-    ∙ joined_append f (take i xs) (get_or xs i d ∷ [])
-    ∙ ap {B = List ℕ} (λ l. joined f (take i xs) ++ l) (append-nil (f (get_or xs i d)))
 
 -- a piece behind what is filled
 pub filled_more : (a k n : ℕ) (part ys front : List ℕ) → take a part ≡ front → length ys ≡ k → a ≤ length part → n ≡ a + k → take n (put_mid a k part ys) ≡ front ++ ys

@@ -11,7 +11,7 @@ use model::refusal::Place;
 use rules::Rule;
 
 /// A place, with 0 where there is no situation or follower.
-// 0 and no option: the refusal is told with four numbers.
+// 0 and no option: a refusal of a certificate tells four numbers, with 0 where there is none, as docs/FILE.md says.
 fn place_at(state: u16, situation: u8, rule_state: u8, follower: u8) -> Place
     ensures { result ≡ place state situation rule_state follower }
 {

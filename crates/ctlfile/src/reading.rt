@@ -5,6 +5,7 @@ ghost use Rattle.model.specs.Automaton.{no_row};
 ghost use Rattle.model.specs.File.{byte_mark, mark_in};
 ghost use Rattle.ctlfile.specs.Windows.{shown};
 
+use crate::trailer::record_size;
 use crate::window::Window;
 
 /// The mark that a byte of a certificate stands for: 0 for FF, absent, else the tally and 1.
@@ -20,7 +21,7 @@ impl Window<'_> {
     fn record_at(&self, state: u16) -> usize
         ensures { result ≡ state * (1 + 2 * self.now.situations) }
     {
-        state as usize * (1 + 2 * self.situations as usize)
+        state as usize * record_size(self.situations)
     }
 
     /// The mark of a rule state in a state.

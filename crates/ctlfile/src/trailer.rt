@@ -1,6 +1,6 @@
 //! The trailer of a file.
 
-ghost use Rattle.std.specs.Prelude.{◌≡◌};
+ghost use Rattle.std.specs.Prelude.{◌≡◌, ◌+◌, ◌*◌};
 ghost use Rattle.ctlfile.specs.Trailers.{records_of, certificate_of, trailer_bytes};
 
 /// The mark at the beginning of every trailer.
@@ -18,12 +18,19 @@ pub struct Trailer {
     pub count: u8,
 }
 
+/// The size of a record: a command, and a next state of two bytes in each situation.
+pub(crate) fn record_size(situations: u8) -> usize
+    ensures { result ≡ 1 + 2 * situations }
+{
+    1 + 2 * situations as usize
+}
+
 impl Trailer {
     /// The size of the records.
     pub fn records_size(&self) -> usize
         ensures { result ≡ records_of self.now }
     {
-        self.states as usize * (1 + 2 * self.situations as usize)
+        self.states as usize * record_size(self.situations)
     }
 
     /// The size of the certificate.

@@ -8,7 +8,7 @@ ghost use Rattle.ctlfile.specs.Files.{file_of, written, left};
 ghost use Rattle.synthesis.specs.Answers.{row_of, position_of};
 ghost use Rattle.synthesis.specs.Tables.{view};
 
-use crate::trailer::Trailer;
+use crate::trailer::{Trailer, record_size};
 use model::refusal::Refusal;
 use rules::Rule;
 use synthesis::position::Position;
@@ -16,19 +16,7 @@ use synthesis::state::State;
 
 // Parts are written by index, and not through `chunks_exact_mut`: of a slice lent so, a proof knows the length and no byte (tried).
 
-/// Writes the record of a state: its command, and its next states of two bytes each.
-fn write_record(state: &State, situations: u8, part: &mut [u8])
-    requires few { situations ≤ 8 }
-    requires room { length part.old ≡ 1 + 2 * situations }
-    ensures { part.new ≡ record_bytes (row_of situations state.now) }
-{
-    part[0] = state.command;
-    for (situation, next) in state.nexts[..situations as usize].iter().enumerate() {
-        let at = 1 + 2 * situation;
-        part[at..at + 2].copy_from_slice(&next.to_le_bytes());
-    }
-}
-
+// The one place that turns a mark into its byte: a `From` of the two numbers would not say which way.
 /// The byte of a mark in a certificate: FF for absent, else the tally.
 fn tally_of(mark: u8) -> u8
     ensures { result ≡ tally_byte mark }
@@ -36,40 +24,86 @@ fn tally_of(mark: u8) -> u8
     if mark == 0 { 255 } else { mark - 1 }
 }
 
-/// Writes the bytes of a position.
-fn write_position(position: &Position, rule_states: u8, part: &mut [u8])
-    requires few { rule_states ≤ 16 }
-    requires room { length part.old ≡ rule_states }
-    ensures { part.new ≡ map tally_byte (view rule_states position.now) }
-{
-    for (rule_state, mark) in position.marks[..rule_states as usize].iter().enumerate() {
-        part[rule_state] = tally_of(*mark);
-    }
+/// How much of a stored state goes into a file: its next states in so many situations, and its marks of so many rule states.
+#[derive(Clone, Copy)]
+struct Widths {
+    situations: u8,
+    rule_states: u8,
+    ghost few_situations: { situations ≤ 8 },
+    ghost few_rule_states: { rule_states ≤ 16 },
 }
 
-/// Writes the record of each state.
-fn write_records(states: &[State], situations: u8, part: &mut [u8])
-    requires few { situations ≤ 8 }
-    requires room { length part.old ≡ length states.now * (1 + 2 * situations) }
-    ensures { part.new ≡ joined record_bytes (map (row_of situations) states.now) }
-{
-    let width = 1 + 2 * situations as usize;
-    for (number, state) in states.iter().enumerate() {
-        let at = number * width;
-        write_record(state, situations, &mut part[at..at + width]);
+impl Widths {
+    /// Writes the record of a state: its command, and its next states of two bytes each.
+    fn write_record(self, state: &State, part: &mut [u8])
+        requires { length part.old ≡ 1 + 2 * self.situations }
+        ensures { part.new ≡ record_bytes (row_of self.situations state.now) }
+    {
+        part[0] = state.command;
+        for (situation, next) in state.nexts[..self.situations as usize].iter().enumerate() {
+            let at = 1 + 2 * situation;
+            part[at..at + 2].copy_from_slice(&next.to_le_bytes());
+        }
     }
-}
 
-/// Writes the position of each state.
-fn write_certificate(states: &[State], rule_states: u8, part: &mut [u8])
-    requires few { rule_states ≤ 16 }
-    requires room { length part.old ≡ length states.now * rule_states }
-    ensures { part.new ≡ tallies (map (position_of rule_states) states.now) }
-{
-    let width = rule_states as usize;
-    for (number, state) in states.iter().enumerate() {
-        let at = number * width;
-        write_position(&state.position, rule_states, &mut part[at..at + width]);
+    /// Writes the bytes of a position.
+    fn write_position(self, position: &Position, part: &mut [u8])
+        requires { length part.old ≡ self.rule_states }
+        ensures { part.new ≡ map tally_byte (view self.rule_states position.now) }
+    {
+        for (rule_state, mark) in position.marks[..self.rule_states as usize]
+            .iter()
+            .enumerate()
+        {
+            part[rule_state] = tally_of(*mark);
+        }
+    }
+
+    /// Writes the record of each state.
+    fn write_records(self, states: &[State], part: &mut [u8])
+        requires { length part.old ≡ length states.now * (1 + 2 * self.situations) }
+        ensures { part.new ≡ joined record_bytes (map (row_of self.situations) states.now) }
+    {
+        let width = record_size(self.situations);
+        for (number, state) in states.iter().enumerate() {
+            let at = number * width;
+            self.write_record(state, &mut part[at..at + width]);
+        }
+    }
+
+    /// Writes the position of each state.
+    fn write_certificate(self, states: &[State], part: &mut [u8])
+        requires { length part.old ≡ length states.now * self.rule_states }
+        ensures { part.new ≡ tallies (map (position_of self.rule_states) states.now) }
+    {
+        let width = self.rule_states as usize;
+        for (number, state) in states.iter().enumerate() {
+            let at = number * width;
+            self.write_position(&state.position, &mut part[at..at + width]);
+        }
+    }
+
+    /// What a state takes: its record, and the bytes of its position.
+    fn state_size(self, state: &State) -> usize
+        ensures takes { result ≡ length (record_bytes (row_of self.situations state.now)) + length (map tally_byte (position_of self.rule_states state.now)) }
+        ensures counted { result ≡ 1 + 2 * self.situations + self.rule_states }
+    {
+        let nexts = &state.nexts[0..self.situations as usize];
+        let marks = &state.position.marks[0..self.rule_states as usize];
+        1 + 2 * nexts.len() + marks.len()
+    }
+
+    /// What the states take.
+    fn body_size(self, states: &[State]) -> usize
+        requires { length states.now ≤ 1024 }
+        ensures takes { result ≡ length (joined record_bytes (map (row_of self.situations) states.now)) + length (joined (map tally_byte) (map (position_of self.rule_states) states.now)) }
+        ensures counted { result ≡ length states.now * (1 + 2 * self.situations + self.rule_states) }
+    {
+        let mut size = 0;
+        for state in states {
+            size += self.state_size(state);
+        }
+        size
     }
 }
 
@@ -92,31 +126,6 @@ fn trailer_for<R: Rule>(rule: &R, states: u16, count: u8) -> Trailer
     }
 }
 
-/// What a state takes: its record, and the bytes of its position.
-fn state_size(state: &State, situations: u8, rule_states: u8) -> usize
-    requires few { (situations ≤ 8) × (rule_states ≤ 16) }
-    ensures takes { result ≡ length (record_bytes (row_of situations state.now)) + length (map tally_byte (position_of rule_states state.now)) }
-    ensures counted { result ≡ 1 + 2 * situations + rule_states }
-{
-    let nexts = &state.nexts[0..situations as usize];
-    let marks = &state.position.marks[0..rule_states as usize];
-    1 + 2 * nexts.len() + marks.len()
-}
-
-/// What the states take.
-fn body_size(states: &[State], situations: u8, rule_states: u8) -> usize
-    requires few { (situations ≤ 8) × (rule_states ≤ 16) }
-    requires few_states { length states.now ≤ 1024 }
-    ensures takes { result ≡ length (joined record_bytes (map (row_of situations) states.now)) + length (joined (map tally_byte) (map (position_of rule_states) states.now)) }
-    ensures counted { result ≡ length states.now * (1 + 2 * situations + rule_states) }
-{
-    let mut size = 0;
-    for state in states {
-        size += state_size(state, situations, rule_states);
-    }
-    size
-}
-
 /// Writes the file of a controller at the start of the buffer, leaves later bytes, and answers the length; or refuses a buffer that is
 /// too small, and writes nothing.
 pub fn write<R: Rule>(
@@ -131,13 +140,17 @@ pub fn write<R: Rule>(
     ensures left { buffer.new ≡ left (file_of (R.Rule.meaning rule.now) states.now count) buffer.old }
 {
     let trailer = trailer_for(rule, states.len() as u16, count);
-    let body = body_size(states, trailer.situations, trailer.rule_states);
+    let widths = Widths {
+        situations: trailer.situations,
+        rule_states: trailer.rule_states,
+    };
+    let body = widths.body_size(states);
     if buffer.len() < body + 20 {
         return Err(Refusal::ShortBuffer);
     }
     let records = trailer.records_size();
-    write_records(states, trailer.situations, &mut buffer[0..records]);
-    write_certificate(states, trailer.rule_states, &mut buffer[records..body]);
+    widths.write_records(states, &mut buffer[0..records]);
+    widths.write_certificate(states, &mut buffer[records..body]);
     buffer[body..body + 20].copy_from_slice(&trailer.bytes());
     Ok(body + 20)
 }

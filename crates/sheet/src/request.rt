@@ -27,6 +27,7 @@ pub enum Request<'a> {
 }
 
 /// What a call answers.
+// No `Result`: an add can be refused twice, by the reading and by the sheet, and one list holds the answers of all calls.
 #[derive(Clone, Copy)]
 pub enum Answer {
     /// Why the text was not read, and why the rule was not added, if so.

@@ -21,6 +21,7 @@ pub fn command_at(states: &[State], state: usize) -> u8
 }
 
 /// The next state of a state in a situation; 0 if there is no such state.
+// No `Option`, as above.
 fn next_at(states: &[State], state: usize, situation: u8) -> usize
     requires { situation < 8 }
     ensures { (S : ℕ) → situation < S → result ≡ slice_index (slice_index_or (map (row_of S) states.now) state no_row).nexts situation }

@@ -14,6 +14,8 @@ use model::refusal::Refusal;
 use rules::{Numbers, Rule};
 use ruletext::ReadRule;
 
+// Two numbers and no `Numbers`, here and at `open`: any may be given, and are refused here.
+
 /// What open would be refused: numbers of situations or commands outside 1 to 8, or a capacity outside 1 to 1,024; or a house rule with
 /// over 12 states, or for other numbers.
 #[tactic(auto, unfolding(model::specs::Sheet::look))]
@@ -57,8 +59,6 @@ impl<R: Rule> Sheet<R> {
         let page = new_page(&house, situations, commands, capacity, memory);
         Sheet { house, page }
     }
-
-    // Every call hands on to the page, each to another of its methods: one function with a closure would be asked for each contract again.
 
     /// Adds a rule that was read behind the others. The rule is used up, also if it is refused.
     pub fn add(&mut self, rule: ReadRule) -> Result<(), Refusal>

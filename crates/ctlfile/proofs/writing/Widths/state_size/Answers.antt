@@ -4,12 +4,12 @@ use Rattle.std.proofs.lemmas.List.{length-take-le}
 use Rattle.model.specs.File.{tally_byte}
 use Rattle.model.proofs.Files.{record_length}
 use Rattle.synthesis.specs.Answers.{row_of}
-use Rattle.ctlfile.proofs.writing.state_size.Goals as goal
+use Rattle.ctlfile.proofs.writing.Widths.state_size.Goals as goal
 
 pub returns : goal.returns
 returns c =
-    let S = c.args.situations in
-    let n = c.args.rule_states in
+    let S = c.args.self.situations in
+    let n = c.args.self.rule_states in
     let nexts : List ℕ = c.args.state.now.nexts in
     let marks : List ℕ = c.args.state.now.position.marks in
     let a : length (take (S - 0) nexts) ≡ S - 0 = length-take-le (S - 0) nexts (omega arith) in
