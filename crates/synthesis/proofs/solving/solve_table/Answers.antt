@@ -34,7 +34,7 @@ returns-then-is_safe c =
     let few : n ≤ room = omega (arith, within, length-take (len - 0) met) in (
       found_in A at (safe_part A (shown A n slots)),
       sym c.loop-c.invariant.0 ∙ try_found A room c.args.limit at L (omega arith) s.0.1 m ∙ ap (λ v. found (found_in A at (safe_part A v))) (sym e),
-      stores A at n slots (take (len - 0) safe) c.control-count.result c.control-count.new.places c.control-count.new.nexts c.args.arrows.now.numbers.good.1 c.control-count.ensures
+      stores A at n slots (take (len - 0) safe) c.control-count.result c.control-count.new.places c.control-count.new.nexts c.args.arrows.now.numbers.few_situations c.control-count.ensures
           (omega (arith, few, c.control-count.auto.places, c.loop-c.auto.places, c.requires.state_room.0)) c.store.new.states (omega (arith, few, c.store.auto.states, c.loop-c.auto.states, c.requires.state_room.1.1)) c.store.ensures
           (record { count = at; states = c.control-count.result }) refl refl,
     )
