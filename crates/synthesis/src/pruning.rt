@@ -19,7 +19,7 @@ pub struct Numbers {
 pub fn is_safe(safe: &[bool], place: usize) -> bool
     ensures { result ≡ flag safe.now place }
 {
-    place < safe.len() && safe[place]
+    safe.get(place).copied().unwrap_or(false)
 }
 
 impl Chosen<'_> {
