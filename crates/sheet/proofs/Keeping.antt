@@ -47,7 +47,7 @@ module _ (p : Page) (s : Sheet) (shows : Shows p s) where
   solved_as x e =
       let g = rules_agree p s shows in
       let n = numbers.1 in
-      let some-command : 0 < (rules s).commands = omega (arith, n, g.commands, p.table.arrows.numbers.good.2) in
+      let some-command : 0 < (rules s).commands = omega (arith, n, g.commands, p.table.some_commands) in
       let same : Positions.solve (rules s) s.capacity s.limit ≡ Positions.solve all p.capacity p.limit =
       ap {B = Solution} (λ c. Positions.solve (rules s) c s.limit) shows.capacity ∙ ap {B = Solution} (Positions.solve (rules s) p.capacity) shows.limit ∙ sym (solves_alike all (rules s) g some-command p.capacity p.limit) in
       ap {B = Outcome} (solve_with s) (same ∙ e)

@@ -1,7 +1,8 @@
 -- One bound after the other. Assumes nothing.
-use Rattle.std.proofs.Common.{◌≡◌, ℕ, suc, ◌+◌, ◌-◌, ◌<◌, ◌≤◌, Bool, true, false, List, length, take, Some, Option as Maybe, sym, refl, ap, ◌∙◌, add-one, arith}
+use Rattle.std.proofs.Common.{◌≡◌, ℕ, suc, ◌+◌, ◌-◌, ◌<◌, ◌≤◌, Bool, true, false, List, length, take, Some, Option as Maybe, sym, refl, ap, ◌∙◌, add-one, subst, inl, inr, arith}
 use mathlib.Core.Option.{Option, none, some}
-use Rattle.std.proofs.lemmas.List.{length-map, length-take-le}
+use Rattle.std.proofs.lemmas.Bool.{cases_lt}
+use Rattle.std.proofs.lemmas.List.{length-map, length-take-le, get_or-take}
 use Rattle.model.specs.Automaton.{Automaton}
 use Rattle.model.specs.Positions.{Position, Solution, found, too_crowded, reach, member, safe_part, start_position, found_in, try_from, solve}
 use Rattle.synthesis.specs.declared.position.Position.{Position as Stored}
@@ -55,3 +56,14 @@ module _ (A : Automaton) (room : ℕ) where
   pub start_lost : (c : ℕ) (slots : List Stored) (links : List (List (Maybe ℕ))) (safe : List Bool) → member (safe_part A (shown A 0 slots)) (start_position A) ≡ false
   unfolding safe_part member
   start_lost c slots links safe = refl
+
+  -- a start whose flag is down is not safe
+  pub start_unsafe : (c len : ℕ) (slots : List Stored) (links : List (List (Maybe ℕ))) (safe : List Bool) → len ≤ length slots → Surveyed A c room (Some len) slots links safe → flag (take (len - 0) safe) 0 ≡ false
+      → member (safe_part A (shown A len slots)) (start_position A) ≡ false
+  start_unsafe c len slots links safe hl s down =
+      elim (cases_lt 0 len) [
+        | inl k ↦ sym (start_told c len slots links safe hl s k) ∙ sym (get_or-take (len - 0) safe 0 false (omega (arith, k))) ∙ down
+        | inr h ↦
+            (let z : 0 ≡ len = omega (arith, h) in
+            subst (λ n. member (safe_part A (shown A n slots)) (start_position A) ≡ false) z (start_lost c slots links safe))
+      ]

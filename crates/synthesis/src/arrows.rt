@@ -2,7 +2,7 @@
 
 ghost use Rattle.std.specs.Prelude.{◌≤◌};
 
-use rules::Numbers;
+use crate::pruning::Numbers;
 
 /// Whether a state starts, and whether it is rejecting.
 #[derive(Clone, Copy)]

@@ -6,7 +6,8 @@ ghost use Rattle.model.specs.Rules.{beside as rule_beside, together};
 ghost use Rattle.synthesis.specs.Tables.{automaton, Agrees, Alike, Joins, no_flags, no_replies, flags_of, Into, Moving, Replying, SolvesAlike};
 
 use crate::arrows::{Arrows, Flags, Moves, Replies, Sources};
-use rules::{Numbers, Rule};
+use crate::pruning::Numbers;
+use rules::Rule;
 use std::array;
 
 const NO_FLAGS: Flags = Flags {
@@ -169,9 +170,13 @@ pub fn gather<R: Rule, T: Rule>(house: &R, added: &[T]) -> Arrows
     requires alike { AllByRecursion (Alike (R.Rule.meaning house.now)) (map T.Rule.meaning added.now) }
     requires room { (together (R.Rule.meaning house.now) (map T.Rule.meaning added.now)).states ≤ 16 }
     ensures agrees { Agrees (automaton result) (together (R.Rule.meaning house.now) (map T.Rule.meaning added.now)) }
-    ensures some { 0 < result.states }
+    ensures some { (0 < result.numbers.situations) × (0 < result.numbers.commands) × (0 < result.states) }
 {
-    let mut arrows = Arrows::empty(Numbers::of(house)).beside(house);
+    let numbers = Numbers {
+        commands: house.commands(),
+        situations: house.situations(),
+    };
+    let mut arrows = Arrows::empty(numbers).beside(house);
     for rule in added {
         arrows = arrows.beside(rule);
     }

@@ -3,7 +3,7 @@
 ghost use Rattle.std.specs.Prelude.{◌<◌, ◌≤◌, length};
 
 use crate::arrows::Arrows;
-use rules::Numbers;
+use crate::pruning::Numbers;
 
 /// The positions of rules side by side, with their steps not over c.
 #[derive(Clone, Copy)]

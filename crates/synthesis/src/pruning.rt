@@ -4,13 +4,22 @@ ghost use Rattle.std.specs.Prelude.{◌≡◌, ℕ, ◌<◌, ◌≤◌, true, fa
 ghost use Rattle.synthesis.specs.Safety.{flag, Holding, into, Keeping, Closed, Widest, Safest, trues, stays_under, lowest_kept};
 
 use crate::graphs::Chosen;
-use rules::Numbers;
+
+/// How many commands and situations there are.
+// At most 8, and none too: rules::Numbers begins at 1, and a table's functions never asked that.
+#[derive(Clone, Copy)]
+pub struct Numbers {
+    pub commands: u8,
+    pub situations: u8,
+    ghost few_commands: { commands ≤ 8 },
+    ghost few_situations: { situations ≤ 8 },
+}
 
 /// Whether the place is in the set.
 pub fn is_safe(safe: &[bool], place: usize) -> bool
     ensures { result ≡ flag safe.now place }
 {
-    place < safe.len() && safe[place]
+    safe.get(place).copied().unwrap_or(false)
 }
 
 impl Chosen<'_> {

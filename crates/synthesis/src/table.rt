@@ -9,10 +9,12 @@ use crate::arrows::Arrows;
 use crate::gathering::gather;
 use rules::Rule;
 
-/// A rule that answers from a table. It has at least one state.
+/// A rule that answers from a table. It has at least one situation, one command and one state.
 #[derive(Clone, Copy)]
 pub struct RuleTable {
     pub arrows: Arrows,
+    ghost some_situations: { 1 ≤ arrows.numbers.situations },
+    ghost some_commands: { 1 ≤ arrows.numbers.commands },
     ghost some_states: { 1 ≤ arrows.states },
 }
 

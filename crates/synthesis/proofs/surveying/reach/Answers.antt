@@ -21,8 +21,8 @@ explore-requires c = (omega arith, (omega arith, (omega arith, (omega arith, (om
 pub returns : goal.returns
 returns c =
     let A = automaton c.args.arrows.now in
-    let c8 = c.args.arrows.now.numbers.good.3 in
-    let s8 = c.args.arrows.now.numbers.good.1 in
+    let c8 = c.args.arrows.now.numbers.few_commands in
+    let s8 = c.args.arrows.now.numbers.few_situations in
     let slots = c.explore.new.met in
     let e : c.start-first.result ≡ stored (start_position A) = c.start-first.ensures in
     let v : view A.states c.start-first.result ≡ start_position A = ap (view A.states) e ∙ view_stored A.states (start_position A) (start_length A) in

@@ -1,7 +1,6 @@
-use Rattle.std.proofs.Common.{◌≡◌, ℕ, ◌<◌, Bool, true, false, List, is_some, Some, None, Option, sym, ◌∙◌, subst, true≢false, MatchOption}
+use Rattle.std.proofs.Common.{◌≡◌, ℕ, ◌<◌, Bool, true, false, List, is_some, Some, None, Option, sym, ◌∙◌, true≢false, MatchOption}
 use mathlib.Core.Bool.{false≢true}
 use Rattle.synthesis.specs.Safety.{flag, Holding, Keeping}
-use Rattle.synthesis.proofs.Lowest.{kept}
 use Rattle.synthesis.proofs.graphs.Chosen.stays.Goals as goal
 
 module _ (C S : ℕ) (links : List (List (Option ℕ))) (t : ℕ → Bool) (h : ℕ) where

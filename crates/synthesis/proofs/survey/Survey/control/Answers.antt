@@ -37,7 +37,7 @@ returns c =
     let go = λ (flags : List Bool). onward A.commands A.situations links flags in
     let lp : length part ≡ trues (take len safe) = c.number.auto.places ∙ k.3 ∙ counted ∙ ap trues (sym k.4) in
     let el : length (take (room - 0) c.args.places.now) ≡ trues (take len safe) = k.3 ∙ counted ∙ ap trues (sym k.4) in
-    controlled A v.c v.room len v.met.now links safe (omega arith) v.arrows.now.numbers.good.1 v.surveyed (omega (arith, v.flags)) k.0 c.requires.start
+    controlled A v.c v.room len v.met.now links safe (omega arith) v.arrows.now.numbers.few_situations v.surveyed (omega (arith, v.flags)) k.0 c.requires.start
     n part (post_of 0 (room - 0) c.args.places.now) c.number.new.nexts lp
     (subst (λ r. Found (Some n) part (reached_from eqb (successors 8 (go (take len safe))) r 0)) el
     (subst (λ flags. Found (Some n) part (reached_from eqb (successors 8 (go flags)) (length (take (room - 0) c.args.places.now)) 0)) (sym k.4) c.in-Some.ensures.places))
@@ -55,6 +55,6 @@ unreachable-requires c =
     let k = sized len room safe c.args.places.now v.flags c.requires.room.0 counted c.requires.start in
     let go = λ (flags : List Bool). onward A.commands A.situations links flags in
     let el : length (take (room - 0) c.args.places.now) ≡ trues (take len safe) = k.3 ∙ counted ∙ ap trues (sym k.4) in
-    never_crowded A v.c v.room len v.met.now links safe (omega arith) v.arrows.now.numbers.good.1 v.surveyed (omega (arith, v.flags)) k.0 c.requires.start
+    never_crowded A v.c v.room len v.met.now links safe (omega arith) v.arrows.now.numbers.few_situations v.surveyed (omega (arith, v.flags)) k.0 c.requires.start
     (subst (λ r. reached_from eqb (successors 8 (go (take len safe))) r 0 ≡ none) el
     (subst (λ flags. reached_from eqb (successors 8 (go flags)) (length (take (room - 0) c.args.places.now)) 0 ≡ none) (sym k.4) c.in-None.ensures.places))
