@@ -10,7 +10,7 @@ use Rattle.model.specs.Text.{Number, Line, n_line, s_line, r_line, t_line, line_
 use Rattle.model.specs.Reading.{Part, part, wrong, first_line, SoFar, nothing, onward, states_so_far, Reading, faulty, read_lines}
 use Rattle.model.proofs.Reading.Parts.{line_exact}
 use Rattle.rules.specs.declared.numbers.Numbers.{Numbers}
-use Rattle.ruletext.specs.declared.so_far.Reading.{Reading as Text}
+use Rattle.ruletext.specs.declared.so_far.Reading.{Reading as TextReading}
 use Rattle.ruletext.specs.Standing.{Stands, Takes, on, step, Taken, going, stopped, take_line}
 
 -- ONE LINE
@@ -79,7 +79,7 @@ module _ (S C turns line : ℕ) (m : SoFar) (b : ℕ) (bs : List ℕ) where
   line_stopped f e = by_line ∙ ap after e
 
 -- between two lines: what is left to read, from how far the lines have come
-pub record Lining (given : Numbers) (text : List ℕ) (now : Text) (rest : List ℕ) : Type 0 where
+pub record Lining (given : Numbers) (text : List ℕ) (now : TextReading) (rest : List ℕ) : Type 0 where
   pub same : now.numbers ≡ given
   pub come : SoFar
   pub turns : ℕ
@@ -88,7 +88,7 @@ pub record Lining (given : Numbers) (text : List ℕ) (now : Text) (rest : List 
   pub stands : Stands now come
   pub short : now.line + length rest ≤ 1 + length text
 
-module _ (given : Numbers) (text : List ℕ) (now : Text) (rest : List ℕ) (t : Lining given text now rest) where
+module _ (given : Numbers) (text : List ℕ) (now : TextReading) (rest : List ℕ) (t : Lining given text now rest) where
   more : (S C : ℕ) (r : List ℕ) (n : ℕ) → rest ≡ r → t.turns ≡ n → 0 < length rest → (taken : Taken) → take_line S C now.line t.come rest ≡ taken
       → (k : ℕ) × (suc k ≡ t.turns) × (b : ℕ) × (bs : List ℕ) × (rest ≡ b ∷ bs)
   more S C [] n e f h taken d = let z = ap length e in absurd (omega arith)
@@ -114,7 +114,7 @@ module _ (given : Numbers) (text : List ℕ) (now : Text) (rest : List ℕ) (t :
       t.place ∙ ap (λ n. read_lines S C n now.line t.come rest) (sym s.1) ∙ ap (λ z. read_lines S C (suc k) now.line t.come z) s.4
       ∙ line_stopped S C k now.line t.come b bs f (subst (λ z. take_line S C now.line t.come z ≡ stopped f) s.4 (at_given (stopped f) e))
 
-  pub lining_more : (after : Text) (behind : Bor (List ℕ)) → 0 < length rest → Takes now t.come rest after (Ok behind) → Lining given text after behind.now
+  pub lining_more : (after : TextReading) (behind : Bor (List ℕ)) → 0 < length rest → Takes now t.come rest after (Ok behind) → Lining given text after behind.now
   lining_more after behind h taken =
       let m = taken.3.0 in
       let next = taken.1 in

@@ -4,6 +4,7 @@ ghost use Rattle.std.specs.Prelude.{◌≡◌, ◌≤◌, true, length, take};
 ghost use Rattle.model.specs.Text.{good_name};
 
 /// A name: one to eight letters and digits.
+// Fixed bytes with a number: reading a text allocates nothing.
 #[derive(Clone, Copy)]
 pub struct Name {
     bytes: [u8; 8],

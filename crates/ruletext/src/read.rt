@@ -10,6 +10,7 @@ use model::fault::ReadFault;
 use rules::Numbers;
 
 // The rule that the text states.
+// Two bytes and no `Numbers`: any may be given, and are refused here.
 fn rule_of(text: &[u8], situations: u8, commands: u8) -> Result<ReadRule, ReadFault>
     ensures { Gives situations commands (model_read situations commands text.now) result }
 {

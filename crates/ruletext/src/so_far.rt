@@ -20,6 +20,7 @@ pub enum SoFar {
 }
 
 /// A text that is being read: what its lines state so far, for so many situations and commands, and the number of the next line.
+// That it stands so stands in each contract: a ghost field was tried, but it keeps that there is such a state of the model, and not which.
 #[derive(Drop)]
 pub struct Reading {
     pub numbers: Numbers,
@@ -30,7 +31,7 @@ pub struct Reading {
 
 impl Reading {
     ghost use Rattle.ruletext.specs.Lines.{line_of};
-    ghost use Rattle.ruletext.specs.declared.so_far.SoFar.TheVariants as far;
+    ghost use Rattle.ruletext.specs.declared.so_far.SoFar.TheVariants as so_far;
     ghost use Rattle.ruletext.specs.Standing.{Stands, StandsAt, Steps, Takes, TakesAll};
 
     // Before the first line.
@@ -49,7 +50,7 @@ impl Reading {
 
     // The line that comes first: an n line.
     fn add_name(&mut self, words: Line) -> Result<(), LineFault>
-        ensures { (m : Model) → StandsAt far.Nothing self.old m → Steps self.old m (line_of words.entry) self.new result }
+        ensures { (m : Model) → StandsAt so_far.Nothing self.old m → Steps self.old m (line_of words.entry) self.new result }
     {
         let Line::Name(name) = words else {
             return Err(LineFault::Order { line: self.line });
@@ -60,7 +61,7 @@ impl Reading {
 
     // The line behind the n line: an s line.
     fn add_size(&mut self, name: Name, words: Line) -> Result<(), LineFault>
-        ensures { (m : Model) → StandsAt (far.Named name) self.old m → Steps self.old m (line_of words.entry) self.new result }
+        ensures { (m : Model) → StandsAt (so_far.Named name) self.old m → Steps self.old m (line_of words.entry) self.new result }
     {
         let Line::Size(size) = words else {
             return Err(LineFault::Order { line: self.line });
@@ -73,7 +74,7 @@ impl Reading {
 
     // The line behind the s line: an r line.
     fn add_rejecting(&mut self, name: Name, states: States, words: Line) -> Result<(), LineFault>
-        ensures { (m : Model) → StandsAt (far.Sized name states) self.old m → Steps self.old m (line_of words.entry) self.new result }
+        ensures { (m : Model) → StandsAt (so_far.Sized name states) self.old m → Steps self.old m (line_of words.entry) self.new result }
     {
         let Line::Rejects(rejects) = words else {
             return Err(LineFault::Order { line: self.line });
@@ -91,7 +92,7 @@ impl Reading {
 
     // Every further line: a t line.
     fn add_arrows(&mut self, name: Name, states: States, words: Line) -> Result<(), LineFault>
-        ensures { (m : Model) → StandsAt (far.Full name states) self.old m → self.old.so_far ≡ far.Full name states → Steps self.old m (line_of words.entry) self.new result }
+        ensures { (m : Model) → StandsAt (so_far.Full name states) self.old m → self.old.so_far ≡ so_far.Full name states → Steps self.old m (line_of words.entry) self.new result }
     {
         let Line::Arrows(arrows) = words else {
             return Err(LineFault::Order { line: self.line });
@@ -110,6 +111,7 @@ impl Reading {
     fn add(&mut self, words: Line) -> Result<(), LineFault>
         ensures { (m : Model) → Stands self.old m → Steps self.old m (line_of words.entry) self.new result }
     {
+        // One match: each step takes what its state holds.
         match self.so_far {
             SoFar::Nothing => self.add_name(words),
             SoFar::Named(name) => self.add_size(name, words),

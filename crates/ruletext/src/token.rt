@@ -51,7 +51,7 @@ fn name_length(text: &[u8]) -> usize
 {
     text.iter()
         .take(8)
-        .take_while(|b| b.is_ascii_alphanumeric())
+        .take_while(|b| Class::Name.contains(**b))
         .count()
 }
 

@@ -12,6 +12,7 @@ fn ends_line(byte: u8) -> bool
 }
 
 /// The lines of a script, taken one by one, without the bytes that end them.
+// An own iterator: a slice's `split` does not say where in the script a piece stands.
 #[derive(Drop)]
 pub struct Lines<'a> {
     script: &'a [u8],

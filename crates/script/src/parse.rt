@@ -130,7 +130,7 @@ struct Parser<'a> {
     words: Words<'a>,
 }
 
-// Each method says that the line stays: what is behind `&mut self` may change in a call, and no type can say what it was before.
+// `same` in each method: `&mut self` lets a call change the line too, and an invariant can't say what it was before the call.
 
 impl<'a> Parser<'a> {
     // The number that the next word denotes, if it is not above `most`.

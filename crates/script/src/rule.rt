@@ -23,6 +23,8 @@ impl AnyRule {
     }
 }
 
+// One match for each question: what would hand out the rule within would hand out a dyn.
+
 impl Rule for AnyRule {
     ghost meaning = { meaning_of };
 

@@ -36,6 +36,7 @@ pub fn word_at(line: &[u8], from: usize) -> Option<Range<usize>>
 }
 
 /// The words of a line, taken one by one.
+// An own iterator: a slice's `split` does not say where in the line a piece stands.
 #[derive(Clone, Copy)]
 pub struct Words<'a> {
     line: &'a [u8],
@@ -75,6 +76,7 @@ impl<'a> Iterator for Words<'a> {
 }
 
 /// The number that a word denotes in decimal digits, if it is not above `most`.
+// No `parse`: it takes a plus sign, and only of a `str`, which a line need not be.
 #[tactic(auto, using(crate::proofs::Denoted::one_more))]
 pub fn number(word: &[u8], most: u16) -> Result<u16, BadLine>
     ensures value { MatchResult result (λ n. Denotes word.now n) (λ fault. Refuses word.now most fault) }

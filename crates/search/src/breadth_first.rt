@@ -28,7 +28,7 @@ pub fn find<const DEGREE: usize, G: Graph<DEGREE>>(
 
 /// How many nodes are met, and the link to the one just met.
 #[derive(Clone, Copy)]
-struct Met {
+struct Placed {
     len: usize,
     link: Option<u16>,
 }
@@ -39,16 +39,16 @@ fn meet<const DEGREE: usize, G: Graph<DEGREE>>(
     met: &mut [G::Node],
     len: usize,
     candidate: Option<G::Node>,
-) -> Option<Met>
+) -> Option<Placed>
     requires within { len ≤ length met.old }
     requires linkable { length met.old ≤ 65536 }
     ensures { MatchOption result (Held None met.new (with_met (G.Graph.same graph.now) (take len met.old) candidate)) (λ m. Held (Some m.len) met.new (with_met (G.Graph.same graph.now) (take len met.old) candidate) × (m.link ≡ link_to (G.Graph.same graph.now) (take len met.old) candidate)) }
 {
     let Some(node) = candidate else {
-        return Some(Met { len, link: None });
+        return Some(Placed { len, link: None });
     };
     if let Some(at) = find(graph, &met[..len], &node) {
-        return Some(Met {
+        return Some(Placed {
             len,
             link: Some(at as u16),
         });
@@ -57,7 +57,7 @@ fn meet<const DEGREE: usize, G: Graph<DEGREE>>(
         return None;
     }
     met[len] = node;
-    Some(Met {
+    Some(Placed {
         len: len + 1,
         link: Some(len as u16),
     })

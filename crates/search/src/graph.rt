@@ -5,7 +5,7 @@ ghost use Rattle.std.specs.Prelude.{◌≡◌, ℕ, ◌<◌, Bool, Option as May
 /// A graph whose nodes have their successors by number: the numbers below `DEGREE` at every node, and at a number there may be none.
 ///
 /// It has no law, so that a graph which borrows its arrows can be one; what a search needs of `same` is asked of its caller.
-// `same` and not the nodes' `Eq`: what a search finds is stated by the ghost member `same`.
+// `same` and no `Eq` of the nodes: a graph may take unequal nodes as the same.
 pub trait Graph<const DEGREE: usize> {
     type Node: Copy;
 

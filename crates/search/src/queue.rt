@@ -4,6 +4,7 @@ ghost use Rattle.std.specs.Prelude.{◌≡◌, ◌+◌, ◌<◌, ◌≤◌, true
 ghost use Rattle.search.specs.Waiting.{waiting, Fits, Popped};
 
 /// A queue in a slice that is used as a ring: behind its last slot comes its first again.
+// A lent slice and no `VecDeque`: the search allocates nothing.
 #[derive(Drop)]
 pub struct Queue<'a, T> {
     slots: &'a mut [T],
@@ -52,6 +53,7 @@ impl<'a, T: Copy> Queue<'a, T> {
     }
 
     /// Lets an item wait behind all others. False, if there is no slot for it; nothing changes then.
+    // A bool: there is nothing to tell but whether it fits.
     pub fn push(&mut self, item: T) -> bool
         ensures room { result ≡ nat_lt self.old.len (length self.old.slots.now) }
         ensures pushed { result ≡ true → waiting self.new.slots.now self.new.head self.new.len ≡ waiting self.old.slots.now self.old.head self.old.len ++ (item ∷ []) }

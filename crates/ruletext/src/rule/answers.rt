@@ -33,6 +33,8 @@ impl ReadRule {
     }
 }
 
+// One match for each question: a blank rule answers each by itself, and has no part to hand out.
+
 impl Rule for ReadRule {
     ghost meaning = { λ r. rule_meaning (view r) };
 
