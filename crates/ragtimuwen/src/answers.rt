@@ -66,7 +66,7 @@ pub struct Answers<'a, W> {
 }
 
 impl<'a, W: Write> Answers<'a, W> {
-    pub fn new(rt: &'a HostRuntime, out: &'a mut W) -> Answers<'a, W> {
+    pub(crate) fn new(rt: &'a HostRuntime, out: &'a mut W) -> Answers<'a, W> {
         Answers {
             rt,
             heap: rt.alloc(),
@@ -75,7 +75,7 @@ impl<'a, W: Write> Answers<'a, W> {
     }
 
     /// Answers a script, line by line.
-    pub fn script(&mut self, script: &[u8]) -> io::Result<()> {
+    pub(crate) fn script(&mut self, script: &[u8]) -> io::Result<()> {
         for line in Lines::new(script) {
             self.line(line)?;
         }
