@@ -62,13 +62,7 @@ struct Beside<'a, R: Rule> {
 
 impl<R: Rule> Beside<'_, R> {
     /// Whether the follower follows the state, with the rule beside those of the table. False, where one of the numbers is too large.
-    fn follows(
-        &self,
-        state: u8,
-        command: u8,
-        situation: u8,
-        follower: u8,
-    ) -> bool
+    fn follows(&self, state: u8, command: u8, situation: u8, follower: u8) -> bool
         ensures { command < self.now.arrows.now.numbers.commands → situation < self.now.arrows.now.numbers.situations → state < self.now.arrows.now.states + (R.Rule.meaning self.now.rule.now).states → follower < self.now.arrows.now.states + (R.Rule.meaning self.now.rule.now).states → result ≡ (rule_beside (automaton self.now.arrows.now) (R.Rule.meaning self.now.rule.now)).follows state command situation follower }
     {
         let n = self.arrows.states;
@@ -83,7 +77,10 @@ impl<R: Rule> Beside<'_, R> {
         if state < n {
             follower < n && self.arrows.follows(state, command, situation, follower)
         } else {
-            follower >= n && self.rule.follows(state - n, command, situation, follower - n)
+            follower >= n
+                && self
+                    .rule
+                    .follows(state - n, command, situation, follower - n)
         }
     }
 
