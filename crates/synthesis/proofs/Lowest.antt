@@ -3,6 +3,7 @@ use Rattle.std.proofs.Common.{◌≡◌, ℕ, zero, suc, ◌+◌, ◌<◌, ◌�
 use mathlib.Core.Bool.{false≢true}
 use Rattle.std.specs.List.{find, list_all, range_with_len}
 use Rattle.std.proofs.lemmas.Bool.{and_parts, and_from, cases_Bool, cases_eq}
+use Rattle.synthesis.specs.declared.pruning.Numbers.{Numbers}
 use Rattle.synthesis.specs.Safety.{link, flag, into, Holding, stays_under, lowest_kept}
 
 -- a link into a set leads to a place of it
@@ -62,3 +63,7 @@ module _ (S : ℕ) (links : List (List (Option ℕ))) (flags : List Bool) (h : �
 
   pub kept_below : (C u : ℕ) → Some u ≡ lowest_kept C S links flags h → u < C
   kept_below C u e = (subst (λ o. Lowest C o) (sym e) (kept C)).0
+
+-- what is made of the same numbers, links and flags is the same
+pub chosen_alike : {X : Type 0} (make : Numbers → List (List (Option ℕ)) → List Bool → X) (m n : Numbers) (ks ls : List (List (Option ℕ))) (fs gs : List Bool) → m ≡ n → ks ≡ ls → fs ≡ gs → make m ks fs ≡ make n ls gs
+chosen_alike make m n ks ls fs gs e d b = ap (λ k. make k ks fs) e ∙ ap (λ k. make n k fs) d ∙ ap (make n ls) b

@@ -50,89 +50,84 @@ impl Arrows {
     {
         self.replies[command as usize].moves[situation as usize].into[follower as usize].states[state as usize]
     }
+}
 
+/// A table, and a rule that joins it: a rule with its numbers of situations and commands, and there is room for its states.
+#[derive(Drop)]
+struct Beside<'a, R: Rule> {
+    arrows: &'a Arrows,
+    rule: &'a R,
+    ghost joins: { Joins arrows.now (R.Rule.meaning rule.now) },
+}
+
+impl<R: Rule> Beside<'_, R> {
     /// Whether the follower follows the state, with the rule beside those of the table. False, where one of the numbers is too large.
-    fn follows_beside<R: Rule>(
-        &self,
-        rule: &R,
-        state: u8,
-        command: u8,
-        situation: u8,
-        follower: u8,
-    ) -> bool
-        requires joins { Joins self.now (R.Rule.meaning rule.now) }
-        ensures { command < self.now.numbers.commands → situation < self.now.numbers.situations → state < self.now.states + (R.Rule.meaning rule.now).states → follower < self.now.states + (R.Rule.meaning rule.now).states → result ≡ (rule_beside (automaton self.now) (R.Rule.meaning rule.now)).follows state command situation follower }
+    fn follows(&self, state: u8, command: u8, situation: u8, follower: u8) -> bool
+        ensures { command < self.now.arrows.now.numbers.commands → situation < self.now.arrows.now.numbers.situations → state < self.now.arrows.now.states + (R.Rule.meaning self.now.rule.now).states → follower < self.now.arrows.now.states + (R.Rule.meaning self.now.rule.now).states → result ≡ (rule_beside (automaton self.now.arrows.now) (R.Rule.meaning self.now.rule.now)).follows state command situation follower }
     {
-        let n = self.states;
-        let all = n + rule.states();
-        if command >= self.numbers.commands
-            || situation >= self.numbers.situations
+        let n = self.arrows.states;
+        let all = n + self.rule.states();
+        if command >= self.arrows.numbers.commands
+            || situation >= self.arrows.numbers.situations
             || state >= all
             || follower >= all
         {
             return false;
         }
         if state < n {
-            follower < n && self.follows(state, command, situation, follower)
+            follower < n && self.arrows.follows(state, command, situation, follower)
         } else {
-            follower >= n && rule.follows(state - n, command, situation, follower - n)
+            follower >= n
+                && self
+                    .rule
+                    .follows(state - n, command, situation, follower - n)
         }
     }
 
     /// What the follower follows, with the rule beside those of the table.
-    fn sources<R: Rule>(&self, rule: &R, command: u8, situation: u8, follower: u8) -> Sources
-        requires joins { Joins self.now (R.Rule.meaning rule.now) }
-        ensures { command < self.now.numbers.commands → situation < self.now.numbers.situations → follower < self.now.states + (R.Rule.meaning rule.now).states → Into (rule_beside (automaton self.now) (R.Rule.meaning rule.now)) command situation follower result }
+    fn sources(&self, command: u8, situation: u8, follower: u8) -> Sources
+        ensures { command < self.now.arrows.now.numbers.commands → situation < self.now.arrows.now.numbers.situations → follower < self.now.arrows.now.states + (R.Rule.meaning self.now.rule.now).states → Into (rule_beside (automaton self.now.arrows.now) (R.Rule.meaning self.now.rule.now)) command situation follower result }
     {
         let states = array::from_fn(|state| {
-            self.follows_beside(rule, state as u8, command, situation, follower)
+            self.follows(state as u8, command, situation, follower)
         });
         Sources { states }
     }
 
     /// The moves under a command in a situation.
-    fn moves<R: Rule>(&self, rule: &R, command: u8, situation: u8) -> Moves
-        requires joins { Joins self.now (R.Rule.meaning rule.now) }
-        ensures { command < self.now.numbers.commands → situation < self.now.numbers.situations → Moving (rule_beside (automaton self.now) (R.Rule.meaning rule.now)) command situation result }
+    fn moves(&self, command: u8, situation: u8) -> Moves
+        ensures { command < self.now.arrows.now.numbers.commands → situation < self.now.arrows.now.numbers.situations → Moving (rule_beside (automaton self.now.arrows.now) (R.Rule.meaning self.now.rule.now)) command situation result }
     {
-        let into = array::from_fn(|follower| self.sources(
-            rule,
-            command,
-            situation,
-            follower as u8,
-        ));
+        let into = array::from_fn(|follower| self.sources(command, situation, follower as u8));
         Moves { into }
     }
 
     /// The moves under a command in every situation.
-    fn replies<R: Rule>(&self, rule: &R, command: u8) -> Replies
-        requires joins { Joins self.now (R.Rule.meaning rule.now) }
-        ensures { command < self.now.numbers.commands → Replying (rule_beside (automaton self.now) (R.Rule.meaning rule.now)) command result }
+    fn replies(&self, command: u8) -> Replies
+        ensures { command < self.now.arrows.now.numbers.commands → Replying (rule_beside (automaton self.now.arrows.now) (R.Rule.meaning self.now.rule.now)) command result }
     {
-        let moves = array::from_fn(|situation| self.moves(rule, command, situation as u8));
+        let moves = array::from_fn(|situation| self.moves(command, situation as u8));
         Replies { moves }
     }
 
     /// The moves under every command.
-    fn all_replies<R: Rule>(&self, rule: &R) -> [Replies; 8]
-        requires joins { Joins self.now (R.Rule.meaning rule.now) }
-        ensures { (u : ℕ) → u < self.now.numbers.commands → Replying (rule_beside (automaton self.now) (R.Rule.meaning rule.now)) u (slice_index_or result u no_replies) }
+    fn all_replies(&self) -> [Replies; 8]
+        ensures { (u : ℕ) → u < self.now.arrows.now.numbers.commands → Replying (rule_beside (automaton self.now.arrows.now) (R.Rule.meaning self.now.rule.now)) u (slice_index_or result u no_replies) }
     {
-        array::from_fn(|command| self.replies(rule, command as u8))
+        array::from_fn(|command| self.replies(command as u8))
     }
 
     /// Whether a state starts and is rejecting, with the rule beside those of the table. Neither, behind the last state.
-    fn flags_beside<R: Rule>(&self, rule: &R, state: u8) -> Flags
-        requires joins { Joins self.now (R.Rule.meaning rule.now) }
-        ensures { state < self.now.states + (R.Rule.meaning rule.now).states → result ≡ flags_of (rule_beside (automaton self.now) (R.Rule.meaning rule.now)) state }
+    fn flags(&self, state: u8) -> Flags
+        ensures { state < self.now.arrows.now.states + (R.Rule.meaning self.now.rule.now).states → result ≡ flags_of (rule_beside (automaton self.now.arrows.now) (R.Rule.meaning self.now.rule.now)) state }
     {
-        let n = self.states;
+        let n = self.arrows.states;
         if state < n {
-            self.flags[state as usize]
-        } else if state - n < rule.states() {
+            self.arrows.flags[state as usize]
+        } else if state - n < self.rule.states() {
             Flags {
-                starts: rule.starts(state - n),
-                rejects: rule.rejects(state - n),
+                starts: self.rule.starts(state - n),
+                rejects: self.rule.rejects(state - n),
             }
         } else {
             NO_FLAGS
@@ -140,27 +135,36 @@ impl Arrows {
     }
 
     /// Which states start, and which are rejecting.
-    fn all_flags<R: Rule>(&self, rule: &R) -> [Flags; 16]
-        requires joins { Joins self.now (R.Rule.meaning rule.now) }
-        ensures { (q : ℕ) → q < self.now.states + (R.Rule.meaning rule.now).states → slice_index_or result q no_flags ≡ flags_of (rule_beside (automaton self.now) (R.Rule.meaning rule.now)) q }
+    fn all_flags(&self) -> [Flags; 16]
+        ensures { (q : ℕ) → q < self.now.arrows.now.states + (R.Rule.meaning self.now.rule.now).states → slice_index_or result q no_flags ≡ flags_of (rule_beside (automaton self.now.arrows.now) (R.Rule.meaning self.now.rule.now)) q }
     {
-        array::from_fn(|state| self.flags_beside(rule, state as u8))
+        array::from_fn(|state| self.flags(state as u8))
     }
 
+    /// The rules of both, as one table.
+    fn table(&self) -> Arrows
+        ensures agrees { Agrees (automaton result) (rule_beside (automaton self.now.arrows.now) (R.Rule.meaning self.now.rule.now)) }
+        ensures some { 0 < result.states }
+    {
+        let flags = self.all_flags();
+        let replies = self.all_replies();
+        Arrows {
+            numbers: self.arrows.numbers,
+            states: self.arrows.states + self.rule.states(),
+            flags,
+            replies,
+        }
+    }
+}
+
+impl Arrows {
     /// The rules of the table, and one more beside them.
     fn beside<R: Rule>(&self, rule: &R) -> Arrows
         requires joins { Joins self.now (R.Rule.meaning rule.now) }
         ensures agrees { Agrees (automaton result) (rule_beside (automaton self.now) (R.Rule.meaning rule.now)) }
         ensures some { 0 < result.states }
     {
-        let flags = self.all_flags(rule);
-        let replies = self.all_replies(rule);
-        Arrows {
-            numbers: self.numbers,
-            states: self.states + rule.states(),
-            flags,
-            replies,
-        }
+        Beside { arrows: self, rule }.table()
     }
 }
 

@@ -77,11 +77,7 @@ impl Survey<'_> {
         ensures { Controlled (automaton self.now.arrows.now) self.now.met.now (length self.now.met.now) self.now.safe.now result places.new nexts.new }
     {
         let room = count(self.safe);
-        let chosen = Chosen {
-            numbers: self.arrows.numbers,
-            links: self.links,
-            safe: self.safe,
-        };
+        let chosen = self.chosen();
         match number(&chosen, &mut places[0..room], waiting, nexts) {
             Some(n) => n,
             None => unreachable(),

@@ -64,7 +64,7 @@ impl Arrows {
         let sources = &self.replies[command as usize].moves[situation as usize].into[follower];
         let states = self.states as usize;
         let mut most = 0;
-        // Over all sixteen and with no branch, so that they are compared at once.
+        // Over all sixteen and with no branch, so that they are compared at once; by zip and fold (tried) the proof did not close.
         for state in 0..16usize {
             let follows = (state < states) & sources.states[state];
             most = passed_on(follows, position.marks[state]).max(most);

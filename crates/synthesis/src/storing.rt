@@ -8,7 +8,6 @@ ghost use Rattle.synthesis.specs.Surveys.{shown};
 ghost use Rattle.synthesis.specs.Control.{Controlled};
 ghost use Rattle.synthesis.specs.Answers.{StandsAt, row_of, position_of};
 
-use crate::graphs::Chosen;
 use crate::state::State;
 use crate::survey::Survey;
 use std::array;
@@ -26,12 +25,7 @@ impl Survey<'_> {
         requires { flag self.now.safe.now place ≡ true }
         ensures { result ≡ command_at (automaton self.now.arrows.now) (safe_part (automaton self.now.arrows.now) (shown (automaton self.now.arrows.now) (length self.now.met.now) self.now.met.now)) (slice_index_or (shown (automaton self.now.arrows.now) (length self.now.met.now) self.now.met.now) place []) }
     {
-        let chosen = Chosen {
-            numbers: self.arrows.numbers,
-            links: self.links,
-            safe: self.safe,
-        };
-        match chosen.lowest_command(place) {
+        match self.chosen().lowest_command(place) {
             Some(command) => command,
             None => unreachable(),
         }

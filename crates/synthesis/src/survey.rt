@@ -6,6 +6,7 @@ ghost use Rattle.synthesis.specs.Tables.{automaton};
 ghost use Rattle.synthesis.specs.Surveys.{Surveyed};
 
 use crate::arrows::Arrows;
+use crate::graphs::Chosen;
 use crate::position::Position;
 
 /// The positions met at the bound c, the links of each to its steps, and whether it is safe.
@@ -21,4 +22,19 @@ pub struct Survey<'a> {
     ghost flags: { length safe.now ≡ length met.now },
     ghost rows: { length met.now ≤ length links.now },
     ghost surveyed: { Surveyed (automaton arrows.now) c room (Some (length met.now)) met.now links.now safe.now } by { Prim.hlevel props },
+}
+
+impl Survey<'_> {
+    /// Its places, under the lowest commands that stay among the safe ones.
+    pub fn chosen(&self) -> Chosen
+        ensures numbers { result.numbers ≡ self.now.arrows.now.numbers }
+        ensures links { result.links.now ≡ self.now.links.now }
+        ensures safe { result.safe.now ≡ self.now.safe.now }
+    {
+        Chosen {
+            numbers: self.arrows.numbers,
+            links: self.links,
+            safe: self.safe,
+        }
+    }
 }

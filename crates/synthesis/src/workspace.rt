@@ -15,6 +15,7 @@ const NO_STATE: State = State {
 };
 
 /// Tables for up to 1,024 positions. What they hold before a solve does not matter to it.
+// One table for each, and indices for links: the search is lent nodes and links as slices of their own, and a solve allocates nothing.
 #[derive(Drop)]
 pub struct Workspace {
     /// The positions met.

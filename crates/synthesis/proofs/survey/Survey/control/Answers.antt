@@ -7,6 +7,7 @@ use Rattle.search.specs.Meeting.{successors, Found, Linked}
 use Rattle.synthesis.specs.Tables.{automaton}
 use Rattle.synthesis.specs.Safety.{flag, trues}
 use Rattle.synthesis.specs.Control.{onward}
+use Rattle.synthesis.proofs.Lowest.{chosen_alike}
 use Rattle.synthesis.proofs.Pruned.{flag_inside}
 use Rattle.synthesis.proofs.Whole.{trues_some, trues_short, trues_counted}
 use Rattle.synthesis.proofs.Together.{controlled, never_crowded}
@@ -35,13 +36,16 @@ returns c =
     let counted = c.count-room.ensures ∙ trues_counted safe in
     let k = sized len room safe c.args.places.now v.flags c.requires.room.0 counted c.requires.start in
     let go = λ (flags : List Bool). onward A.commands A.situations links flags in
+    let r = c.chosen-chosen in
+    let same =
+    chosen_alike (λ m ls fs. onward m.commands m.situations ls fs) r.result.numbers v.arrows.now.numbers r.result.links.now links r.result.safe.now (take len safe) r.ensures.numbers r.ensures.links (r.ensures.safe ∙ sym k.4) in
     let lp : length part ≡ trues (take len safe) = c.number.auto.places ∙ k.3 ∙ counted ∙ ap trues (sym k.4) in
     let el : length (take (room - 0) c.args.places.now) ≡ trues (take len safe) = k.3 ∙ counted ∙ ap trues (sym k.4) in
     controlled A v.c v.room len v.met.now links safe (omega arith) v.arrows.now.numbers.few_situations v.surveyed (omega (arith, v.flags)) k.0 c.requires.start
     n part (post_of 0 (room - 0) c.args.places.now) c.number.new.nexts lp
     (subst (λ r. Found (Some n) part (reached_from eqb (successors 8 (go (take len safe))) r 0)) el
-    (subst (λ flags. Found (Some n) part (reached_from eqb (successors 8 (go flags)) (length (take (room - 0) c.args.places.now)) 0)) (sym k.4) c.in-Some.ensures.places))
-    (subst (λ flags. Linked eqb 8 (go flags) (take n part) c.number.new.nexts n) (sym k.4) c.in-Some.ensures.nexts)
+    (subst (λ to. Found (Some n) part (reached_from eqb (successors 8 to) (length (take (room - 0) c.args.places.now)) 0)) same c.in-Some.ensures.places))
+    (subst (λ to. Linked eqb 8 to (take n part) c.number.new.nexts n) same c.in-Some.ensures.nexts)
 
 pub unreachable-requires : goal.unreachable-requires
 unreachable-requires c =
@@ -54,7 +58,10 @@ unreachable-requires c =
     let counted = c.count-room.ensures ∙ trues_counted safe in
     let k = sized len room safe c.args.places.now v.flags c.requires.room.0 counted c.requires.start in
     let go = λ (flags : List Bool). onward A.commands A.situations links flags in
+    let r = c.chosen-chosen in
+    let same =
+    chosen_alike (λ m ls fs. onward m.commands m.situations ls fs) r.result.numbers v.arrows.now.numbers r.result.links.now links r.result.safe.now (take len safe) r.ensures.numbers r.ensures.links (r.ensures.safe ∙ sym k.4) in
     let el : length (take (room - 0) c.args.places.now) ≡ trues (take len safe) = k.3 ∙ counted ∙ ap trues (sym k.4) in
     never_crowded A v.c v.room len v.met.now links safe (omega arith) v.arrows.now.numbers.few_situations v.surveyed (omega (arith, v.flags)) k.0 c.requires.start
     (subst (λ r. reached_from eqb (successors 8 (go (take len safe))) r 0 ≡ none) el
-    (subst (λ flags. reached_from eqb (successors 8 (go flags)) (length (take (room - 0) c.args.places.now)) 0 ≡ none) (sym k.4) c.in-None.ensures.places))
+    (subst (λ to. reached_from eqb (successors 8 to) (length (take (room - 0) c.args.places.now)) 0 ≡ none) same c.in-None.ensures.places))

@@ -1,12 +1,12 @@
 use Rattle.std.proofs.Common.{Bool, ap, arith}
 use Rattle.synthesis.specs.declared.arrows.Flags.{Flags}
 use Rattle.synthesis.specs.Tables.{flags_of}
-use Rattle.synthesis.proofs.arrows.Arrows.beside.Goals as goal
+use Rattle.synthesis.proofs.gathering.Beside.table.Goals as goal
 
 pub returns-clause-agrees : goal.returns-clause-agrees
 unfolding flags_of
 returns-clause-agrees g c =
-    let j = c.requires.joins in
+    let j = c.args.self.now.joins in
     let s = j.situations in
     let k = j.commands in
     record {
