@@ -20,7 +20,7 @@ pub enum SoFar {
 }
 
 /// A text that is being read: what its lines state so far, for so many situations and commands, and the number of the next line.
-// That it stands so stands in each contract: a ghost field was tried, but it keeps that there is such a state of the model, and not which.
+// What the lines state stands in each contract: a ghost field was tried; it keeps that the model has such a state, and not which.
 #[derive(Drop)]
 pub struct Reading {
     pub numbers: Numbers,

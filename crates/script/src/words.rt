@@ -76,7 +76,7 @@ impl<'a> Iterator for Words<'a> {
 }
 
 /// The number that a word denotes in decimal digits, if it is not above `most`.
-// No `parse`: it takes a plus sign, and only of a `str`, which a line need not be.
+// No `parse`: it reads a `str`, takes a plus sign, and of an overflow it does not say that all bytes are digits.
 #[tactic(auto, using(crate::proofs::Denoted::one_more))]
 pub fn number(word: &[u8], most: u16) -> Result<u16, BadLine>
     ensures value { MatchResult result (λ n. Denotes word.now n) (λ fault. Refuses word.now most fault) }

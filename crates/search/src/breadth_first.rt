@@ -23,8 +23,7 @@ pub fn find<const DEGREE: usize, G: Graph<DEGREE>>(
     )
 }
 
-// The slice of those met and their number go side by side: of a slice that a struct's field lends to be read, a proof knows the length and
-// no element.
+// Those met and their number go side by side: tried as a struct over the slice, but what the slice holds behind it in the end was not proved.
 
 /// How many nodes are met, and the link to the one just met.
 #[derive(Clone, Copy)]
