@@ -16,6 +16,8 @@ fn mark_of(byte: u8) -> u8
     if byte == 255 { 0 } else { byte + 1 }
 }
 
+// A state, a situation and a rule state have a bound each, asked where they come in.
+
 impl Window<'_> {
     /// Where the record of a state begins.
     fn record_at(&self, state: u16) -> usize

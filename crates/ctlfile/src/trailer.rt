@@ -40,6 +40,7 @@ impl Trailer {
         self.states as usize * self.rule_states as usize
     }
 
+    // Byte by byte, as `read` takes it apart: the layout is the file's.
     /// The bytes of the trailer.
     pub fn bytes(&self) -> [u8; 20]
         ensures { result ≡ trailer_bytes self.now }

@@ -59,6 +59,8 @@ impl Widths {
         }
     }
 
+    // Records and positions are written by a function each: one with a closure would be told both contracts again.
+
     /// Writes the record of each state.
     fn write_records(self, states: &[State], part: &mut [u8])
         requires { length part.old ≡ length states.now * (1 + 2 * self.situations) }
@@ -99,6 +101,7 @@ impl Widths {
         ensures takes { result ≡ length (joined record_bytes (map (row_of self.situations) states.now)) + length (joined (map tally_byte) (map (position_of self.rule_states) states.now)) }
         ensures counted { result ≡ length states.now * (1 + 2 * self.situations + self.rule_states) }
     {
+        // A loop: of a `sum` behind `map` a proof lacks the bound.
         let mut size = 0;
         for state in states {
             size += self.state_size(state);

@@ -11,6 +11,8 @@ pub struct Free {
     numbers: Numbers,
 }
 
+// Two numbers and no `Numbers`, here and at reply: any may be given, and the nearest are taken.
+
 impl Free {
     /// Of numbers outside 1 to 8 the nearest inside is taken.
     pub fn new(situations: u8, commands: u8) -> Free

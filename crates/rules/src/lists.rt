@@ -5,6 +5,8 @@ ghost use Rattle.std.specs.List.{range_with_len};
 use crate::rule::Rule;
 use std::alloc::{AllocError, Global};
 
+// Three functions: each contract names another question of the rule.
+
 /// The states that start, ascending.
 pub fn start_states<R: Rule>(heap: Global, rule: &R) -> Result<Vec<u8>, AllocError>
     ensures { IfOk result (λ v. v.items ≡ filter (R.Rule.meaning rule.now).start (range_with_len 0 (R.Rule.meaning rule.now).states)) }

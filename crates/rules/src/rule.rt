@@ -32,6 +32,7 @@ pub trait Rule {
         requires { state < (meaning self.now).states }
         ensures { result ≡ (meaning self.now).reject state };
 
+    // Four numbers and no struct of them: each has a bound of its own.
     /// Whether the follower follows the state under the command in the situation.
     fn follows(&self, state: u8, command: u8, situation: u8, follower: u8) -> bool
         requires known_state { state < (meaning self.now).states }

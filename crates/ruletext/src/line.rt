@@ -75,6 +75,8 @@ impl<'a> Cursor<'a> {
     ghost use Rattle.ruletext.specs.Tokens.{Reads, same};
     ghost use Rattle.ruletext.specs.Lines.{name_line, size_line, states_in, rejects_line, arrows_line, line_of, line_reader};
 
+    // The lexer gives tokens, so a reader of one kind of word takes the token of that kind.
+
     // A space, and a digit behind it.
     fn number(&mut self) -> Result<u8, WordFault>
         ensures { Reads model_digit same self.old self.new result }

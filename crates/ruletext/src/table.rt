@@ -52,6 +52,8 @@ impl StateSet {
     }
 }
 
+// A struct for each row: a literal of a struct with an array of arrays in it gets no proof.
+
 /// The states that follow in each situation.
 #[derive(Clone, Copy)]
 pub struct BySituation {

@@ -110,6 +110,7 @@ pub fn explore<const DEGREE: usize, G: Graph<DEGREE>>(
     let mut queue = Queue::new(slots);
     let _ = queue.push(*first);
     let mut len = 1;
+    // By number: of the links that an iterator lends to be written, a proof knows nothing afterwards.
     let mut row = 0;
     while let Some(node) = queue.pop() {
         let more = spread(graph, &node, met, len, &mut links[row][..])?;

@@ -9,6 +9,7 @@ pub struct Stored {
     pub current: usize,
 }
 
+// What is told: `Found` is what is stored, and has no command.
 /// What solve finds: the count, the number of states and the command at the start.
 #[derive(Clone, Copy, Debug, PartialEq, Eq)]
 pub struct Solution {

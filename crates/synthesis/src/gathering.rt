@@ -61,6 +61,7 @@ struct Beside<'a, R: Rule> {
 }
 
 impl<R: Rule> Beside<'_, R> {
+    // Not by `rules::Pair`: this is asked of any numbers, since `from_fn` goes to the end of each array.
     /// Whether the follower follows the state, with the rule beside those of the table. False, where one of the numbers is too large.
     fn follows(&self, state: u8, command: u8, situation: u8, follower: u8) -> bool
         ensures { command < self.now.arrows.now.numbers.commands → situation < self.now.arrows.now.numbers.situations → state < self.now.arrows.now.states + (R.Rule.meaning self.now.rule.now).states → follower < self.now.arrows.now.states + (R.Rule.meaning self.now.rule.now).states → result ≡ (rule_beside (automaton self.now.arrows.now) (R.Rule.meaning self.now.rule.now)).follows state command situation follower }
@@ -167,6 +168,8 @@ impl Arrows {
         Beside { arrows: self, rule }.table()
     }
 }
+
+// That the rules fit together is asked here, at `solve` and at `RuleTable::of`: they come as two lists, and a struct would lend both again.
 
 /// The rules side by side: the house rule, then the added ones in order. They have the same numbers of situations and commands, and
 /// at most 16 states in all.

@@ -22,6 +22,8 @@ pub fn is_safe(safe: &[bool], place: usize) -> bool
     safe.get(place).copied().unwrap_or(false)
 }
 
+// A place and a command have a bound each, asked where they come in.
+
 impl Chosen<'_> {
     /// Whether the link leads into the set.
     fn leads_inside(&self, link: Option<u16>) -> bool

@@ -37,6 +37,7 @@ fn solve_table(
     requires rows { (length met.old ≤ length links.old) × (length met.old ≤ length nexts.old) }
     ensures { Answered (automaton arrows.now) (length met.old) limit result states.new }
 {
+    // A loop and no `find`: where a bound works, its tables are used.
     for c in 0..=limit {
         let Some(len) = look(arrows, c, met, waiting, links, safe) else {
             return Err(Unsolved::Crowded);

@@ -87,6 +87,7 @@ impl Arrows {
         }
     }
 
+    // A command and a situation have a bound each, asked where they come in.
     /// One step under a command in a situation. None, if a tally passes c.
     pub fn step(&self, c: u8, command: u8, situation: u8, position: &Position) -> Option<Position>
         requires known_command { command < self.now.numbers.commands }

@@ -36,6 +36,8 @@ impl Graph<64> for Positions<'_> {
     }
 }
 
+// The bound on c is asked of each function: a type of its own would be made anew of each number that is tried.
+
 /// Meets the positions that steps not over c lead to, in the order of meeting, and links them. None, if there are more than slots.
 fn reach(
     arrows: &Arrows,
