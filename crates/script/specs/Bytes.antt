@@ -13,7 +13,9 @@ unhexed [] = []
 unhexed (a ∷ []) = []
 unhexed (a ∷ b ∷ rest) = (16 * hex_value a + hex_value b) ∷ unhexed rest
 
--- `hex:` and digits, `file:` and the file's name, or the bytes themselves
+-- `hex:` and digits, `file:` and the file's name, or else the bytes themselves
 abbrev pub Tells : List ℕ → Source → Type 0
-Tells word (Script v) = ((take 4 word ≡ codes "hex:") × (vec_items v ≡ unhexed (drop 4 word))) ⊎ (vec_items v ≡ word)
+Tells word (Script v) =
+    ((take 4 word ≡ codes "hex:") × (vec_items v ≡ unhexed (drop 4 word)))
+    ⊎ ((take 4 word ≡ codes "hex:" → ⊥) × (take 5 word ≡ codes "file:" → ⊥) × (vec_items v ≡ word))
 Tells word (File v) = (take 5 word ≡ codes "file:") × (vec_items v ≡ drop 5 word)
