@@ -32,15 +32,21 @@ struct StateGraph<'a> {
     table: &'a Table,
 }
 
-impl Graph<8> for StateGraph<'_> {
+impl Graph for StateGraph<'_> {
     type Node = u8;
 
     ghost same = { λ g a b. (a == b) };
+
+    ghost degree = { λ g. 8 };
 
     ghost successor = { λ g q p. follower g.table.now.arrows q p };
 
     fn same(&self, a: &u8, b: &u8) -> bool {
         *a == *b
+    }
+
+    fn degree(&self) -> usize {
+        8
     }
 
     fn successor(&self, node: &u8, i: usize) -> Option<u8> {
@@ -60,7 +66,7 @@ pub fn all_reached(table: &Table, states: States) -> bool
     let graph = StateGraph { table };
     let mut met = [0; 8];
     let mut waiting = [0; 8];
-    let mut links = [[None; 8]; 8];
+    let mut links = [None; 64];
     match explore(&graph, &states.start, &mut met, &mut waiting, &mut links) {
         Some(n) => n == states.count as usize,
         None => false,

@@ -4,7 +4,8 @@ use mathlib.Core.Option.{none, some}
 use Rattle.std.proofs.lemmas.List.{drop-append-le, drop_at, drop_more}
 use Rattle.std.proofs.lemmas.Bool.{le-leb, lt-leb}
 use Rattle.model.specs.Search.{fresh, explore, reached_from}
-use Rattle.search.specs.Meeting.{successors, with_successors, Linked}
+use Rattle.search.specs.Meeting.{successors, with_successors}
+use Rattle.search.proofs.Links.{LinkedBy}
 use Rattle.search.proofs.OneByOne.{met_behind}
 
 module _ {X : Type 0} (same : X → X → Bool) (degree : ℕ) (successor : X → ℕ → Option X) where
@@ -13,14 +14,14 @@ module _ {X : Type 0} (same : X → X → Bool) (degree : ℕ) (successor : X �
 
   module _ (room : ℕ) (first : X) where
     -- so many turns are over, and the model's search goes on to its answer from here
-    pub record Turning (met waiting : List X) (links : List (List (Option ℕ))) (row : ℕ) : Type 0 where
+    pub record Turning (met waiting : List X) (links : ℕ → List (Option ℕ)) (row : ℕ) : Type 0 where
       pub some_met : 0 < length met
       pub few : length met ≤ room
       pub searched : explore same (successors degree successor) room (room - row) met waiting ≡ reached_from same (successors degree successor) room first
       pub waits : waiting ≡ drop row met
-      pub linked : Linked same degree successor met links row
+      pub linked : LinkedBy same degree successor met links row
 
-    pub turning_first : 0 < room → (links : List (List (Option ℕ))) → Turning (first ∷ []) (first ∷ []) links 0
+    pub turning_first : 0 < room → (links : ℕ → List (Option ℕ)) → Turning (first ∷ []) (first ∷ []) links 0
     unfolding reached_from
     turning_first h links =
         record { some_met = omega arith; few = omega arith; searched = begun; waits = refl; linked = λ k d lk. absurd (omega arith) }
@@ -36,11 +37,11 @@ module _ {X : Type 0} (same : X → X → Bool) (degree : ℕ) (successor : X �
       pub early : row < length met
       pub here : (d : X) → get_or met row d ≡ x
       pub few : length rest + row + 1 ≡ length met
-      pub more : (n new : List X) (links : List (List (Option ℕ))) → n ≡ with_successors same degree successor met x → length n ≤ room → new ≡ drop (length met) n
-          → Linked same degree successor n links (row + 1) → Turning n (rest ++ new) links (row + 1)
+      pub more : (n new : List X) (links : ℕ → List (Option ℕ)) → n ≡ with_successors same degree successor met x → length n ≤ room → new ≡ drop (length met) n
+          → LinkedBy same degree successor n links (row + 1) → Turning n (rest ++ new) links (row + 1)
       pub over : room < length (with_successors same degree successor met x) → reached_from same (successors degree successor) room first ≡ none
 
-    pub turn : (met waiting : List X) (links : List (List (Option ℕ))) (row : ℕ) (x : X) (rest : List X) → Turning met waiting links row → waiting ≡ x ∷ rest → Turn met row x rest
+    pub turn : (met waiting : List X) (links : ℕ → List (Option ℕ)) (row : ℕ) (x : X) (rest : List X) → Turning met waiting links row → waiting ≡ x ∷ rest → Turn met row x rest
     turn met waiting links row x rest s popped =
         record {
           early = early;
@@ -62,8 +63,8 @@ module _ {X : Type 0} (same : X → X → Bool) (degree : ℕ) (successor : X �
         turns : room - row ≡ suc (room - (row + 1))
         turns = omega (arith, early, s.few)
 
-        more : (n new : List X) (links' : List (List (Option ℕ))) → n ≡ with_successors same degree successor met x → length n ≤ room → new ≡ drop (length met) n
-            → Linked same degree successor n links' (row + 1) → Turning n (rest ++ new) links' (row + 1)
+        more : (n new : List X) (links' : ℕ → List (Option ℕ)) → n ≡ with_successors same degree successor met x → length n ≤ room → new ≡ drop (length met) n
+            → LinkedBy same degree successor n links' (row + 1) → Turning n (rest ++ new) links' (row + 1)
         more n new links' en le ew linked =
             let behind = fresh same met (successors degree successor x) in
             let e : n ≡ met ++ behind = en ∙ met_behind same degree successor met x in
@@ -88,8 +89,8 @@ module _ {X : Type 0} (same : X → X → Bool) (degree : ℕ) (successor : X �
             sym s.searched ∙ rw (turns, popped, t, explore)
 
     -- no node waits for its turn
-    pub turning_last : (met waiting : List X) (links : List (List (Option ℕ))) (row : ℕ) → Turning met waiting links row → waiting ≡ []
-        → (reached_from same (successors degree successor) room first ≡ some met) × Linked same degree successor met links (length met)
+    pub turning_last : (met waiting : List X) (links : ℕ → List (Option ℕ)) (row : ℕ) → Turning met waiting links row → waiting ≡ []
+        → (reached_from same (successors degree successor) room first ≡ some met) × LinkedBy same degree successor met links (length met)
     turning_last met waiting links row s none-waits = (
       sym s.searched ∙ rw none-waits (ended (room - row)),
       λ k d lk. s.linked k d (omega (arith, ap length (sym none-waits ∙ s.waits), length-drop row met)),

@@ -1,5 +1,5 @@
 -- Nodes met one by one, as a loop meets them, and links between them.
-use Rattle.std.specs.Prelude.{◌≡◌, ℕ, ◌<◌, ◌≤◌, Bool, cond, List, [], ◌∷◌, ◌++◌, map, length, take, Some, None, fold, Option, nat_lt, slice_index_or}
+use Rattle.std.specs.Prelude.{◌≡◌, ℕ, ◌*◌, ◌<◌, ◌≤◌, Bool, cond, List, [], ◌∷◌, ◌++◌, map, length, take, drop, Some, None, fold, Option, nat_lt, slice_index_or}
 use Rattle.std.proofs.Math.Option.{Option as MaybeList, none, some}
 use Rattle.std.specs.List.{range_with_len}
 use Rattle.model.specs.Search.{place}
@@ -51,3 +51,8 @@ LinkedFrom same successor met links x n = (i : ℕ) → i < n → Link same met 
 abbrev pub Linked : {X : Type 0} → (X → X → Bool) → ℕ → (X → ℕ → Option X) → List X → List (List (Option ℕ)) → ℕ → Type 0
 Linked {X} same degree successor met links rows =
     (k : ℕ) (d : X) → k < rows → LinkedFrom same successor met (slice_index_or links k []) (slice_index_or met k d) degree
+
+-- the same, where the rows stand one behind another in one list
+abbrev pub LinkedAlong : {X : Type 0} → (X → X → Bool) → ℕ → (X → ℕ → Option X) → List X → List (Option ℕ) → ℕ → Type 0
+LinkedAlong {X} same degree successor met links rows =
+    (k : ℕ) (d : X) → k < rows → LinkedFrom same successor met (drop (k * degree) links) (slice_index_or met k d) degree

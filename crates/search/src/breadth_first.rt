@@ -1,19 +1,15 @@
 //! The search, written once for every graph.
 
-ghost use Rattle.std.specs.Prelude.{◌≡◌, ◌+◌, ◌<◌, ◌≤◌, true, length, take, IfSome, Some, None, MatchOption, slice_index_or};
+ghost use Rattle.std.specs.Prelude.{◌≡◌, ◌+◌, ◌*◌, ◌<◌, ◌≤◌, true, length, take, IfSome, Some, None, MatchOption, slice_index_or};
 ghost use Rattle.std.specs.List.{position};
 ghost use Rattle.model.specs.Search.{reached_from};
-ghost use Rattle.search.specs.Meeting.{successors, with_met, with_successors, link_to, Held, Found, Linked, LinkedFrom};
+ghost use Rattle.search.specs.Meeting.{successors, with_met, with_successors, link_to, Held, Found, LinkedAlong, LinkedFrom};
 
 use super::graph::Graph;
 use super::queue::Queue;
 
 /// The place of a node among those met, if it is one of them.
-pub fn find<const DEGREE: usize, G: Graph<DEGREE>>(
-    graph: &G,
-    met: &[G::Node],
-    node: &G::Node,
-) -> Option<usize>
+pub fn find<G: Graph>(graph: &G, met: &[G::Node], node: &G::Node) -> Option<usize>
     ensures { result ≡ position (G.Graph.same graph.now node.now) met.now }
 {
     met.iter().position(
@@ -33,7 +29,7 @@ struct Placed {
 }
 
 /// Meets a node, if it is there. None, if it is new and there is no slot for it.
-fn meet<const DEGREE: usize, G: Graph<DEGREE>>(
+fn meet<G: Graph>(
     graph: &G,
     met: &mut [G::Node],
     len: usize,
@@ -63,7 +59,7 @@ fn meet<const DEGREE: usize, G: Graph<DEGREE>>(
 }
 
 /// Meets the successors of a node, and writes its links to them. None, if there is no slot for one.
-fn spread<const DEGREE: usize, G: Graph<DEGREE>>(
+pub(crate) fn spread<G: Graph>(
     graph: &G,
     node: &G::Node,
     met: &mut [G::Node],
@@ -72,14 +68,14 @@ fn spread<const DEGREE: usize, G: Graph<DEGREE>>(
 ) -> Option<usize>
     requires within { len ≤ length met.old }
     requires linkable { length met.old ≤ 65536 }
-    requires row { DEGREE ≤ length links.old }
+    requires row { G.Graph.degree graph.now ≤ length links.old }
     requires itself { (x : G.Node) → G.Graph.same graph.now x x ≡ true }
-    ensures nodes { Held result met.new (with_successors (G.Graph.same graph.now) DEGREE (G.Graph.successor graph.now) (take len met.old) node.now) }
-    ensures links { IfSome result (λ n. LinkedFrom (G.Graph.same graph.now) (G.Graph.successor graph.now) (take n met.new) links.new node.now DEGREE) }
+    ensures nodes { Held result met.new (with_successors (G.Graph.same graph.now) (G.Graph.degree graph.now) (G.Graph.successor graph.now) (take len met.old) node.now) }
+    ensures links { IfSome result (λ n. LinkedFrom (G.Graph.same graph.now) (G.Graph.successor graph.now) (take n met.new) links.new node.now (G.Graph.degree graph.now)) }
 {
     let mut count = len;
     // By number: a number names a successor and its link, and a link that an iterator lends is not known afterwards.
-    for i in 0..DEGREE {
+    for i in 0..graph.degree() {
         let next = meet(graph, met, count, graph.successor(node, i))?;
         count = next.len;
         links[i] = next.link;
@@ -89,31 +85,33 @@ fn spread<const DEGREE: usize, G: Graph<DEGREE>>(
 
 /// Meets all nodes that a first one leads to, breadth first, and answers their number. None, if there are more of them than slots in `met`.
 ///
-/// `met` then begins with the nodes in the order of meeting, and `links` with a row for each of them: the place of each of its
-/// successors that is there. What the slices held before does not matter.
-pub fn explore<const DEGREE: usize, G: Graph<DEGREE>>(
+/// `met` then begins with the nodes in the order of meeting, and `links` with the links of each of them, one node's behind another's: the
+/// place of each of its successors that is there. What the slices held before does not matter.
+pub fn explore<G: Graph>(
     graph: &G,
     first: &G::Node,
     met: &mut [G::Node],
     slots: &mut [G::Node],
-    links: &mut [[Option<u16>; DEGREE]],
+    links: &mut [Option<u16>],
 ) -> Option<usize>
     requires some { 0 < length met.old }
     requires linkable { length met.old ≤ 65536 }
     requires slots { length met.old ≤ length slots.old }
-    requires rows { length met.old ≤ length links.old }
+    requires rows { length met.old * G.Graph.degree graph.now ≤ length links.old }
     requires itself { (x : G.Node) → G.Graph.same graph.now x x ≡ true }
-    ensures nodes { Found result met.new (reached_from (G.Graph.same graph.now) (successors DEGREE (G.Graph.successor graph.now)) (length met.old) first.now) }
-    ensures links { IfSome result (λ n. Linked (G.Graph.same graph.now) DEGREE (G.Graph.successor graph.now) (take n met.new) links.new n) }
+    ensures nodes { Found result met.new (reached_from (G.Graph.same graph.now) (successors (G.Graph.degree graph.now) (G.Graph.successor graph.now)) (length met.old) first.now) }
+    ensures links { IfSome result (λ n. LinkedAlong (G.Graph.same graph.now) (G.Graph.degree graph.now) (G.Graph.successor graph.now) (take n met.new) links.new n) }
 {
     met[0] = *first;
     let mut queue = Queue::new(slots);
     let _ = queue.push(*first);
     let mut len = 1;
     // By number: of the links that an iterator lends to be written, a proof knows nothing afterwards.
+    let degree = graph.degree();
     let mut row = 0;
     while let Some(node) = queue.pop() {
-        let more = spread(graph, &node, met, len, &mut links[row][..])?;
+        let from = row * degree;
+        let more = spread(graph, &node, met, len, &mut links[from..from + degree])?;
         queue.push_all(&met[len..more]);
         len = more;
         row += 1;

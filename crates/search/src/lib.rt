@@ -5,5 +5,6 @@
 pub mod breadth_first;
 pub mod graph;
 pub mod queue;
+pub mod rows;
 #[cfg(test)]
 mod tests;

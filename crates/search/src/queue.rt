@@ -7,11 +7,11 @@ ghost use Rattle.search.specs.Waiting.{waiting, Fits, Popped};
 // A lent slice and no `VecDeque`: the search allocates nothing.
 #[derive(Drop)]
 pub struct Queue<'a, T> {
-    slots: &'a mut [T],
+    pub slots: &'a mut [T],
     /// The slot of the first that waits.
-    head: usize,
+    pub head: usize,
     /// How many wait.
-    len: usize,
+    pub len: usize,
     ghost fits: { Fits slots.now head len },
 }
 

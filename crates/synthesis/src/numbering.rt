@@ -9,19 +9,25 @@ ghost use Rattle.synthesis.specs.Control.{onward, Controlled};
 
 use crate::graphs::Chosen;
 use crate::survey::Survey;
-use search::breadth_first::explore;
 use search::graph::Graph;
+use search::rows::explore_rows;
 
 /// The successor with the number i is the place that the lowest command leads to in the situation i.
-impl Graph<8> for Chosen<'_> {
+impl Graph for Chosen<'_> {
     type Node = u16;
 
     ghost same = { λ g a b. (a == b) };
+
+    ghost degree = { λ g. 8 };
 
     ghost successor = { λ g h x. onward g.numbers.commands g.numbers.situations g.links.now g.safe.now h x };
 
     fn same(&self, a: &u16, b: &u16) -> bool {
         *a == *b
+    }
+
+    fn degree(&self) -> usize {
+        8
     }
 
     fn successor(&self, node: &u16, i: usize) -> Option<u16> {
@@ -58,7 +64,7 @@ fn number(
     ensures places { Found result places.new (reached_from nat_eq (successors 8 (onward chosen.now.numbers.commands chosen.now.numbers.situations chosen.now.links.now chosen.now.safe.now)) (length places.old) 0) }
     ensures nexts { IfSome result (λ n. Linked nat_eq 8 (onward chosen.now.numbers.commands chosen.now.numbers.situations chosen.now.links.now chosen.now.safe.now) (take n places.new) nexts.new n) }
 {
-    explore(chosen, &0, places, waiting, nexts)
+    explore_rows(chosen, &0, places, waiting, nexts)
 }
 
 impl Survey<'_> {

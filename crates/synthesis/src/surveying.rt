@@ -10,19 +10,25 @@ use crate::graphs::Positions;
 use crate::position::Position;
 use crate::pruning::safe_part;
 use crate::stepping::fits;
-use search::breadth_first::explore;
 use search::graph::Graph;
+use search::rows::explore_rows;
 
 /// The successor with the number i is the step under the command i / 8 in the situation i % 8.
-impl Graph<64> for Positions<'_> {
+impl Graph for Positions<'_> {
     type Node = Position;
 
     ghost same = { λ g a b. same_marks a.marks b.marks };
+
+    ghost degree = { λ g. 64 };
 
     ghost successor = { λ g P i. candidate (automaton g.arrows.now) g.c (view g.arrows.now.states P) (i / 8) (i % 8) };
 
     fn same(&self, a: &Position, b: &Position) -> bool {
         *a == *b
+    }
+
+    fn degree(&self) -> usize {
+        64
     }
 
     fn successor(&self, node: &Position, i: usize) -> Option<Position> {
@@ -55,7 +61,7 @@ fn reach(
     if !fits(arrows.states, c, &first) {
         return Some(0);
     }
-    explore(&Positions { arrows, c }, &first, met, waiting, links)
+    explore_rows(&Positions { arrows, c }, &first, met, waiting, links)
 }
 
 /// Meets the positions within the bound c, links each to its steps, and flags those that are safe. None, if there are more than slots.

@@ -1,10 +1,11 @@
-use Rattle.std.proofs.Common.{◌≡◌, ℕ, ◌+◌, ◌-◌, ◌<◌, ◌≤◌, List, [], ◌∷◌, length, take, drop, set, sym, refl, ap, ◌∙◌, arith, length-drop, length-set}
-use Rattle.std.proofs.lemmas.List.{length-take-le, take_more_set, drop-take}
+use Rattle.std.proofs.Common.{◌≡◌, ℕ, ◌+◌, ◌-◌, ◌*◌, ◌<◌, ◌≤◌, List, [], ◌∷◌, None, length, get_or, take, drop, set, sym, refl, ap, ◌∙◌, arith, length-drop, length-set}
+use borrow.Rule.Slice.PartMut.{put_mid}
+use Rattle.std.proofs.lemmas.List.{get_or-drop, length-take-le, take_more_set, drop-take}
 use Rattle.std.proofs.lemmas.Bool.{lt-ltb}
 use Rattle.model.specs.Search.{fresh}
 use Rattle.search.specs.Meeting.{successors}
 use Rattle.search.specs.Waiting.{waiting}
-use Rattle.search.proofs.Links.{linked_more}
+use Rattle.search.proofs.Links.{in_rows, row_in_rows, get_or_before, get_or_inside, linked_more}
 use Rattle.search.proofs.OneByOne.{met_behind}
 use Rattle.search.proofs.Ring.{length_waiting, none_waiting}
 use Rattle.search.proofs.Turns.{Turn, longer, turning_first, turn, turning_last}
@@ -26,7 +27,7 @@ loop-node-init g c =
     let waits : waiting c.push.new.self.slots.now c.push.new.self.head c.push.new.self.len ≡ first ∷ [] = rw empty at queued in (
       refl,
       omega arith,
-      rw (one, waits) (turning_first (g.G.Graph.same c.args.graph.now) g.row.DEGREE (g.G.Graph.successor c.args.graph.now) (length (set met 0 first)) first (omega arith) c.args.links.now),
+      rw (one, waits) (turning_first (g.G.Graph.same c.args.graph.now) (g.G.Graph.degree c.args.graph.now) (g.G.Graph.successor c.args.graph.now) (length (set met 0 first)) first (omega arith) (λ k. drop (k * g.G.Graph.degree c.args.graph.now) c.args.links.now)),
       omega (arith, c.push.ensures.slots, ap length made.slots),
     )
 
@@ -38,11 +39,11 @@ part xs met len to e le =
 
 -- the turn of the node that was popped
 turn_now : (g : given.Over) (c : In-Some g)
-    → Turn (g.G.Graph.same c.args.graph.now) g.row.DEGREE (g.G.Graph.successor c.args.graph.now) (length (set c.args.met.now 0 c.args.first.now)) c.args.first.now
+    → Turn (g.G.Graph.same c.args.graph.now) (g.G.Graph.degree c.args.graph.now) (g.G.Graph.successor c.args.graph.now) (length (set c.args.met.now 0 c.args.first.now)) c.args.first.now
     (take c.loop-node.len c.loop-node.met) c.loop-node.row c.in-Some.node (waiting c.pop.new.self.slots.now c.pop.new.self.head c.pop.new.self.len)
 turn_now g c =
-    turn (g.G.Graph.same c.args.graph.now) g.row.DEGREE (g.G.Graph.successor c.args.graph.now) (length (set c.args.met.now 0 c.args.first.now)) c.args.first.now
-    (take c.loop-node.len c.loop-node.met) (waiting c.loop-node.queue.slots.now c.loop-node.queue.head c.loop-node.queue.len) c.loop-node.links c.loop-node.row
+    turn (g.G.Graph.same c.args.graph.now) (g.G.Graph.degree c.args.graph.now) (g.G.Graph.successor c.args.graph.now) (length (set c.args.met.now 0 c.args.first.now)) c.args.first.now
+    (take c.loop-node.len c.loop-node.met) (waiting c.loop-node.queue.slots.now c.loop-node.queue.head c.loop-node.queue.len) (λ k. drop (k * g.G.Graph.degree c.args.graph.now) c.loop-node.links) c.loop-node.row
     c.in-Some.node (waiting c.pop.new.self.slots.now c.pop.new.self.head c.pop.new.self.len) c.loop-node.invariant.2 c.in-Some.ensures.popped
 
 -- how many are met before it
@@ -52,10 +53,6 @@ met_now g c = length-take-le c.loop-node.len c.loop-node.met (omega (arith, c.lo
 early : (g : given.Over) (c : In-Some g) → c.loop-node.row < c.loop-node.len
 early g c = omega (arith, met_now g c, (turn_now g c).early)
 
--- there is a row for its links
-row_there : (g : given.Over) (c : In-Some g) → c.loop-node.row < length c.loop-node.links
-row_there g c = let h = early g c in omega (arith, c.loop-node.invariant.1, c.loop-node.auto.links, length-set c.args.met.now 0 c.args.first.now, c.requires.rows)
-
 -- and how many after it
 met_then : (g : given.Over) (c : In_ok-more g) → length (take c.in_ok-more.more c.spread.new.met) ≡ c.in_ok-more.more
 met_then g c = length-take-le c.in_ok-more.more c.spread.new.met c.in_ok-more.ensures.nodes.0
@@ -64,9 +61,17 @@ more : (g : given.Over) (c : In_ok-more g) → c.loop-node.len ≤ c.in_ok-more.
 more g c =
     let n = length-take-le c.loop-node.len c.loop-node.met (omega (arith, c.loop-node.invariant.0, c.loop-node.invariant.1)) in
     let l =
-    longer (g.G.Graph.same c.args.graph.now) g.row.DEGREE (g.G.Graph.successor c.args.graph.now)
+    longer (g.G.Graph.same c.args.graph.now) (g.G.Graph.degree c.args.graph.now) (g.G.Graph.successor c.args.graph.now)
     (take c.loop-node.len c.loop-node.met) (take c.in_ok-more.more c.spread.new.met) c.in-Some.node c.in_ok-more.ensures.nodes.1 in
     omega (arith, met_then g c)
+
+-- there is room for its links
+row_there : (g : given.Over) (c : In-Some g) → c.loop-node.row * c.degree-degree.result + c.degree-degree.result ≤ length c.loop-node.links
+row_there g c =
+    let h = early g c in
+    let n = length-set c.args.met.now 0 c.args.first.now in
+    rw c.degree-degree.ensures
+    (row_in_rows c.loop-node.row (g.G.Graph.degree c.args.graph.now) (length c.args.met.now) (length c.loop-node.links) (omega (arith, c.loop-node.invariant.1, n)) (omega (arith, c.loop-node.auto.links, c.requires.rows)))
 
 pub returns-in_err-more : goal.returns-in_err-more
 returns-in_err-more g c =
@@ -107,17 +112,30 @@ loop-node-preserved g c =
     let same-slots : length c.pop.new.self.slots.now ≡ length c.loop-node.queue.slots.now = let e = popped.slots in cc in
     let few : to ≤ length (set c.args.met.now 0 c.args.first.now) = omega (arith, spread.nodes.0, c.spread.auto.met, c.loop-node.invariant.0) in
     let same = g.G.Graph.same c.args.graph.now in
+    let degree = g.G.Graph.degree c.args.graph.now in
     let successor = g.G.Graph.successor c.args.graph.now in
     let node = c.in-Some.node in
     let before = take len c.loop-node.met in
     let turn_is = turn_now g (goal.at.loop-node-preserved g c).In-Some in
+    let from = c.loop-node.row * c.degree-degree.result in
+    let after = put_mid from (from + c.degree-degree.result - from) c.loop-node.links c.spread.new.links in
+    let there = row_there g (goal.at.loop-node-preserved g c).In-Some in
     let linked =
-    linked_more same g.row.DEGREE successor before (fresh same before (successors g.row.DEGREE successor node)) (take to met) c.loop-node.links node c.loop-node.row c.spread.new.links
-    (spread.nodes.1 ∙ met_behind same g.row.DEGREE successor before node) c.loop-node.invariant.2.linked turn_is.early (row_there g (goal.at.loop-node-preserved g c).In-Some) turn_is.here spread.links in (
+    linked_more same degree successor before (fresh same before (successors degree successor node)) (take to met) (λ k. drop (k * degree) c.loop-node.links) (λ k. drop (k * degree) after) node c.loop-node.row c.spread.new.links
+    (spread.nodes.1 ∙ met_behind same degree successor before node) c.loop-node.invariant.2.linked turn_is.early turn_is.here spread.links
+    (λ k i lk li.
+    get_or-drop (k * degree) after i None
+    ∙ get_or_before from (from + c.degree-degree.result - from) c.loop-node.links c.spread.new.links (k * degree + i) None
+    (rw c.degree-degree.ensures (in_rows k i degree c.loop-node.row (c.loop-node.row * degree) lk li (omega arith))) (omega (arith, there))
+    ∙ sym (get_or-drop (k * degree) c.loop-node.links i None))
+    (λ i li.
+    get_or-drop (c.loop-node.row * degree) after i None
+    ∙ ap (λ n. get_or after (c.loop-node.row * n + i) None) (sym c.degree-degree.ensures)
+    ∙ get_or_inside from (from + c.degree-degree.result - from) c.loop-node.links c.spread.new.links i None (omega (arith, li, c.spread.auto.links, c.degree-degree.ensures)) (omega (arith, there))) in (
       c.spread.auto.met ∙ c.loop-node.invariant.0,
       few,
       rw c.push_all.ensures.pushed
-          ((turn_now g (goal.at.loop-node-preserved g c).In-Some).more (take to met) (take (to - len) (drop len met)) (set c.loop-node.links c.loop-node.row c.spread.new.links) spread.nodes.1
+          ((turn_now g (goal.at.loop-node-preserved g c).In-Some).more (take to met) (take (to - len) (drop len met)) (λ k. drop (k * degree) after) spread.nodes.1
           (rw (met_then g (goal.at.loop-node-preserved g c).In_ok-more) few)
           (part met (take len c.loop-node.met) len to (met_now g (goal.at.loop-node-preserved g c).In-Some) le)
           linked),
@@ -129,8 +147,8 @@ returns g c =
     let n = length-set c.args.met.now 0 c.args.first.now in
     let l = length-take-le c.loop-node.len c.loop-node.met (omega (arith, c.loop-node.invariant.0, c.loop-node.invariant.1)) in
     let last =
-    turning_last (g.G.Graph.same c.args.graph.now) g.row.DEGREE (g.G.Graph.successor c.args.graph.now) (length (set c.args.met.now 0 c.args.first.now)) c.args.first.now
-    (take c.loop-node.len c.loop-node.met) (waiting c.loop-node.queue.slots.now c.loop-node.queue.head c.loop-node.queue.len) c.loop-node.links c.loop-node.row
+    turning_last (g.G.Graph.same c.args.graph.now) (g.G.Graph.degree c.args.graph.now) (g.G.Graph.successor c.args.graph.now) (length (set c.args.met.now 0 c.args.first.now)) c.args.first.now
+    (take c.loop-node.len c.loop-node.met) (waiting c.loop-node.queue.slots.now c.loop-node.queue.head c.loop-node.queue.len) (λ k. drop (k * g.G.Graph.degree c.args.graph.now) c.loop-node.links) c.loop-node.row
     c.loop-node.invariant.2 c.in_default.ensures.popped.0 in
     record {
       nodes = (omega (arith, c.loop-node.invariant.2.some_met, l), omega (arith, c.loop-node.invariant.0, c.loop-node.invariant.1), rw n at last.0);

@@ -1,4 +1,4 @@
-use Rattle.std.proofs.Common.{◌≡◌, ◌-◌, ◌≤◌, length, take}
+use Rattle.std.proofs.Common.{◌≡◌, ◌-◌, ◌*◌, ◌≤◌, length, take, drop}
 use Rattle.search.specs.Waiting.{waiting}
 use Rattle.search.proofs.Turns.{Turning}
 use Rattle.search.proofs.breadth_first.explore.Given as goal
@@ -7,8 +7,8 @@ abbrev pub invariant-loop-node : goal.invariant-loop-node
 invariant-loop-node g l =
     (length l.met ≡ length l.initial.met)
     × (l.len ≤ length l.initial.met)
-    × Turning (g.G.Graph.same l.graph) g.row.DEGREE (g.G.Graph.successor l.graph) (length l.initial.met) l.first
-    (take l.len l.met) (waiting l.queue.slots.now l.queue.head l.queue.len) l.links l.row
+    × Turning (g.G.Graph.same l.graph) (g.G.Graph.degree l.graph) (g.G.Graph.successor l.graph) (length l.initial.met) l.first
+    (take l.len l.met) (waiting l.queue.slots.now l.queue.head l.queue.len) (λ k. drop (k * g.G.Graph.degree l.graph) l.links) l.row
     × (length l.initial.met ≤ length l.queue.slots.now)
 
 abbrev pub decreases-loop-node : goal.decreases-loop-node

@@ -13,7 +13,7 @@ returns-in_err-next g c =
     let i = c.loop-i.i in
     let e : with_met same (take c.loop-i.count c.loop-i.met) c.successor.result ≡ with_met same (fold (with_met same) before (map successor (range_with_len 0 i))) (successor i) =
     let s = c.successor.ensures in let m = c.loop-i.invariant.2.met in cc in
-    rw c.from_residual.ensures (record { nodes = over_all same successor (length c.meet.new.met) g.row.DEGREE i before (omega arith) (rw e at c.in_err-next.ensures); links = tt })
+    rw c.from_residual.ensures (record { nodes = over_all same successor (length c.meet.new.met) (g.G.Graph.degree c.args.graph.now) i before (omega arith) (rw e at c.in_err-next.ensures); links = tt })
 
 pub loop-i-preserved : goal.loop-i-preserved
 loop-i-preserved g c =

@@ -1,6 +1,6 @@
 use Rattle.std.proofs.Common.{arith}
 use Rattle.synthesis.proofs.Lowest.{kept_below}
-use Rattle.synthesis.proofs.numbering.ChosenGraph8.successor.Goals as goal
+use Rattle.synthesis.proofs.numbering.ChosenGraph.successor.Goals as goal
 
 pub bounds-self-link : goal.bounds-self-link
 bounds-self-link c =
