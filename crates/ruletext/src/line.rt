@@ -20,7 +20,7 @@ pub enum Choice {
 
 impl Choice {
     /// Whether a digit is below `n`; `*` always is.
-    pub(crate) fn is_below(self, n: u8) -> bool
+    pub fn is_below(self, n: u8) -> bool
         ensures { result ≡ below n (picked self) }
     {
         match self {
@@ -30,7 +30,7 @@ impl Choice {
     }
 
     /// Whether a number is the digit; each is one that `*` takes.
-    pub(crate) fn takes(self, n: u8) -> bool
+    pub fn takes(self, n: u8) -> bool
         ensures { result ≡ taken (picked self) n }
     {
         match self {

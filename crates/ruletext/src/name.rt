@@ -17,7 +17,7 @@ impl Name {
     ghost use Rattle.ruletext.specs.Names.{spelled};
 
     /// An own copy of the bytes of a name.
-    pub(crate) fn of(name: &[u8]) -> Name
+    pub fn of(name: &[u8]) -> Name
         requires { good_name name.now ≡ true }
         ensures { spelled result ≡ name.now }
     {
@@ -28,7 +28,7 @@ impl Name {
     }
 
     /// The bytes, as written.
-    pub(crate) fn as_slice(&self) -> &[u8]
+    pub fn as_slice(&self) -> &[u8]
         ensures { result.now ≡ spelled self.now }
     {
         &self.bytes[..self.letters]

@@ -7,7 +7,6 @@ ghost use Rattle.ruletext.specs.Lines.{digit_of, states_in, size_line, arrows_li
 ghost use Rattle.ruletext.specs.Ranges.{first_outside, fault_of};
 
 use crate::line::{Arrows, Size};
-use rules::Numbers;
 
 /// What a digit's byte says.
 pub fn value(digit: u8) -> u8
@@ -24,7 +23,7 @@ fn first_too_large(words: &[[u8; 2]], states: u8) -> Option<usize>
 }
 
 /// The byte of the first state that is not below `states`, if there is one. The first word's digit stands at byte `at`.
-pub(crate) fn outside(words: &[[u8; 2]], states: u8, at: usize) -> Option<usize>
+pub fn outside(words: &[[u8; 2]], states: u8, at: usize) -> Option<usize>
     requires { at + 2 * length words.now < 2 ^ 64 }
     ensures { result ≡ first_outside (state_numbers states at (states_in words.entry)) }
 {
@@ -61,16 +60,16 @@ impl States {
 }
 
 /// The byte of the first number of a t line that is out of range, if there is one.
-pub(crate) fn outside_arrows(arrows: Arrows, states: u8, numbers: Numbers) -> Option<usize>
-    ensures { result ≡ first_outside (line_numbers numbers.situations numbers.commands states (arrows_line arrows.entry)) }
+pub fn outside_arrows(arrows: Arrows, states: u8, situations: u8, commands: u8) -> Option<usize>
+    ensures { result ≡ first_outside (line_numbers situations commands states (arrows_line arrows.entry)) }
 {
     if arrows.from >= states {
         return Some(2);
     }
-    if !arrows.command.is_below(numbers.commands) {
+    if !arrows.command.is_below(commands) {
         return Some(4);
     }
-    if !arrows.situation.is_below(numbers.situations) {
+    if !arrows.situation.is_below(situations) {
         return Some(6);
     }
     outside(arrows.to, states, 8)

@@ -34,8 +34,8 @@ impl Reading {
     ghost use Rattle.ruletext.specs.declared.so_far.SoFar.TheVariants as so_far;
     ghost use Rattle.ruletext.specs.Standing.{Stands, StandsAt, Steps, Takes, TakesAll};
 
-    // Before the first line.
-    fn new(numbers: Numbers) -> Reading
+    /// Before the first line.
+    pub fn new(numbers: Numbers) -> Reading
         ensures stands { Stands result nothing }
         ensures first { result.line ≡ 1 }
         ensures numbers { result.numbers ≡ numbers }
@@ -97,18 +97,24 @@ impl Reading {
         let Line::Arrows(arrows) = words else {
             return Err(LineFault::Order { line: self.line });
         };
-        if let Some(byte) = outside_arrows(arrows, states.count, self.numbers) {
+        if let Some(byte) = outside_arrows(
+            arrows,
+            states.count,
+            self.numbers.situations,
+            self.numbers.commands,
+        ) {
             return Err(LineFault::Range {
                 line: self.line,
                 byte,
             });
         }
-        self.table.connect(arrows, self.numbers);
+        self.table
+            .connect(arrows, self.numbers.situations, self.numbers.commands);
         Ok(())
     }
 
-    // One more line, if it comes next and its numbers are in range.
-    fn add(&mut self, words: Line) -> Result<(), LineFault>
+    /// One more line, if it comes next and its numbers are in range.
+    pub fn add(&mut self, words: Line) -> Result<(), LineFault>
         ensures { (m : Model) → Stands self.old m → Steps self.old m (line_of words.entry) self.new result }
     {
         // One match: each step takes what its state holds.

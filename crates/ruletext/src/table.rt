@@ -8,14 +8,6 @@ ghost use Rattle.ruletext.specs.Tables.{names, has_state, in_situation, by_comma
 
 use crate::line::{Arrows, Choice};
 use crate::range::value;
-use rules::Numbers;
-
-// Whether the words name the state.
-fn names(words: &[[u8; 2]], state: usize) -> bool
-    ensures { result ≡ names words.now state }
-{
-    words.iter().any(|word| state == value(word[1]) as usize)
-}
 
 /// Some of the states.
 #[derive(Clone, Copy)]
@@ -25,25 +17,30 @@ pub struct StateSet {
 
 impl StateSet {
     /// The states that the words name.
-    pub(crate) fn of(words: &[[u8; 2]]) -> StateSet
+    pub fn of(words: &[[u8; 2]]) -> StateSet
         ensures named { (p : ℕ) → p < 8 → has_state result p ≡ names words.now p }
         ensures none { (p : ℕ) → 8 ≤ p → has_state result p ≡ false }
     {
-        StateSet {
-            has: std::array::from_fn(|p| names(words, p)),
+        let mut has = [false; 8];
+        for word in words {
+            let state = value(word[1]) as usize;
+            if state < 8 {
+                has[state] = true;
+            }
         }
+        StateSet { has }
     }
 
     /// Whether a state is one of them.
-    pub(crate) fn contains(&self, state: u8) -> bool
+    pub fn contains(&self, state: u8) -> bool
         requires { state < 8 }
         ensures { result ≡ has_state self.now state }
     {
         self.has[state as usize]
     }
 
-    // Those of either.
-    fn union(self, other: StateSet) -> StateSet
+    /// Those of either.
+    pub fn union(self, other: StateSet) -> StateSet
         ensures { (p : ℕ) → p < 8 → has_state result p ≡ (has_state self p || has_state other p) }
     {
         StateSet {
@@ -64,10 +61,11 @@ pub struct BySituation {
 
 impl BySituation {
     // Adds the states, in each situation that is chosen.
-    fn add(&mut self, chosen: Choice, numbers: Numbers, states: StateSet)
-        ensures { (x p : ℕ) → x < 8 → p < 8 → in_situation self.new x p ≡ (in_situation self.old x p || ((nat_lt x numbers.situations && taken (picked chosen) x) && has_state states p)) }
+    fn add(&mut self, chosen: Choice, count: u8, states: StateSet)
+        requires { count ≤ 8 }
+        ensures { (x p : ℕ) → x < 8 → p < 8 → in_situation self.new x p ≡ (in_situation self.old x p || ((nat_lt x count && taken (picked chosen) x) && has_state states p)) }
     {
-        for x in 0..numbers.situations {
+        for x in 0..count {
             if chosen.takes(x) {
                 let followers = &mut self.situations[x as usize];
                 *followers = followers.union(states);
@@ -84,12 +82,13 @@ pub struct ByCommand {
 
 impl ByCommand {
     // Adds the states, under each command and in each situation that the line names.
-    fn add(&mut self, line: Arrows, numbers: Numbers, states: StateSet)
-        ensures { (u x p : ℕ) → u < 8 → x < 8 → p < 8 → by_command self.new u x p ≡ (by_command self.old u x p || ((nat_lt u numbers.commands && taken (picked line.entry.command) u) && ((nat_lt x numbers.situations && taken (picked line.entry.situation) x) && has_state states p))) }
+    fn add(&mut self, line: Arrows, situations: u8, commands: u8, states: StateSet)
+        requires { (commands ≤ 8) × (situations ≤ 8) }
+        ensures { (u x p : ℕ) → u < 8 → x < 8 → p < 8 → by_command self.new u x p ≡ (by_command self.old u x p || ((nat_lt u commands && taken (picked line.entry.command) u) && ((nat_lt x situations && taken (picked line.entry.situation) x) && has_state states p))) }
     {
-        for u in 0..numbers.commands {
+        for u in 0..commands {
             if line.command.takes(u) {
-                self.commands[u as usize].add(line.situation, numbers, states);
+                self.commands[u as usize].add(line.situation, situations, states);
             }
         }
     }
@@ -121,7 +120,7 @@ impl Table {
     }
 
     /// Whether an arrow leads from a state to its follower, under a command in a situation.
-    pub(crate) fn follows(&self, state: u8, command: u8, situation: u8, follower: u8) -> bool
+    pub fn follows(&self, state: u8, command: u8, situation: u8, follower: u8) -> bool
         requires { (state < 8) × ((command < 8) × ((situation < 8) × (follower < 8))) }
         ensures { result ≡ arrow self.now.arrows state command situation follower }
     {
@@ -130,12 +129,12 @@ impl Table {
     }
 
     /// Adds the line's arrows: under each command and in each situation that it names, to all its followers.
-    pub(crate) fn connect(&mut self, line: Arrows, numbers: Numbers)
-        requires fits { line.from < 8 }
-        requires named { (below numbers.commands (picked line.command) ≡ true) × (below numbers.situations (picked line.situation) ≡ true) }
-        ensures added { Adds self.old.arrows self.new.arrows (λ q u x p. has_arrow numbers.situations numbers.commands q u x p (arrows_of line.entry)) }
+    pub fn connect(&mut self, line: Arrows, situations: u8, commands: u8)
+        requires fits { (line.from < 8) × ((commands ≤ 8) × (situations ≤ 8)) }
+        requires named { (below commands (picked line.command) ≡ true) × (below situations (picked line.situation) ≡ true) }
+        ensures added { Adds self.old.arrows self.new.arrows (λ q u x p. has_arrow situations commands q u x p (arrows_of line.entry)) }
         ensures same { self.new.rejecting ≡ self.old.rejecting }
     {
-        self.arrows[line.from as usize].add(line, numbers, StateSet::of(line.to));
+        self.arrows[line.from as usize].add(line, situations, commands, StateSet::of(line.to));
     }
 }

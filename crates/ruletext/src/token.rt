@@ -31,7 +31,7 @@ pub enum Class {
 
 impl Class {
     /// Whether the byte is of the class.
-    pub(crate) fn contains(self, b: u8) -> bool
+    pub fn contains(self, b: u8) -> bool
         ensures { result ≡ passing self b }
     {
         match self {
@@ -68,7 +68,7 @@ impl<'a> Cursor<'a> {
     ghost use Rattle.ruletext.specs.Tokens.{Reads, Tokens, same, IsLetter, IsName, IsDigit, IsChoice};
 
     /// The front of the line that the text begins with.
-    pub(crate) fn new(text: &'a [u8], line: usize) -> Cursor<'a>
+    pub fn new(text: &'a [u8], line: usize) -> Cursor<'a>
         ensures { (result.rest.now ≡ text.now) × ((result.line ≡ line) × (result.at ≡ 0)) }
     {
         Cursor {
@@ -100,14 +100,14 @@ impl<'a> Cursor<'a> {
     }
 
     /// Whether a byte of the class stands here.
-    pub(crate) fn sees(&self, class: Class) -> bool
+    pub fn sees(&self, class: Class) -> bool
         ensures { result ≡ seen (passing class) self.now.rest.now }
     {
         self.rest.first().is_some_and(|b| class.contains(*b))
     }
 
     /// One byte of the class.
-    pub(crate) fn byte(&mut self, class: Class) -> Result<u8, WordFault>
+    pub fn byte(&mut self, class: Class) -> Result<u8, WordFault>
         ensures { Reads (model_byte (passing class)) same self.old self.new result }
     {
         if !self.sees(class) {
@@ -119,7 +119,7 @@ impl<'a> Cursor<'a> {
     }
 
     /// The letter of a line.
-    pub(crate) fn letter(&mut self) -> Result<Token<'a>, WordFault>
+    pub fn letter(&mut self) -> Result<Token<'a>, WordFault>
         ensures { Tokens (model_byte model_letter) IsLetter self.old self.new result }
     {
         let b = self.byte(Class::Letter)?;
@@ -127,7 +127,7 @@ impl<'a> Cursor<'a> {
     }
 
     /// A space, a name, and the line end behind it.
-    pub(crate) fn name(&mut self) -> Result<Token<'a>, WordFault>
+    pub fn name(&mut self) -> Result<Token<'a>, WordFault>
         ensures { Tokens n_words IsName self.old self.new result }
     {
         self.byte(Class::Space)?;
@@ -142,7 +142,7 @@ impl<'a> Cursor<'a> {
     }
 
     /// A space and a digit.
-    pub(crate) fn digit(&mut self) -> Result<Token<'a>, WordFault>
+    pub fn digit(&mut self) -> Result<Token<'a>, WordFault>
         ensures { Tokens model_digit IsDigit self.old self.new result }
     {
         self.byte(Class::Space)?;
@@ -151,7 +151,7 @@ impl<'a> Cursor<'a> {
     }
 
     /// A space, and a digit or a star.
-    pub(crate) fn choice(&mut self) -> Result<Token<'a>, WordFault>
+    pub fn choice(&mut self) -> Result<Token<'a>, WordFault>
         ensures { Tokens model_choice IsChoice self.old self.new result }
     {
         self.byte(Class::Space)?;
