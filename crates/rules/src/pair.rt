@@ -8,8 +8,8 @@ use crate::rule::Rule;
 /// smaller of the two numbers. No state of one part follows a state of the other.
 #[derive(Clone, Copy, Debug, PartialEq, Eq)]
 pub struct Pair<X, Y> {
-    first: X,
-    second: Y,
+    pub first: X,
+    pub second: Y,
 }
 
 impl<X, Y> Pair<X, Y> {

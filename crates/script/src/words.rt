@@ -6,7 +6,6 @@ ghost use Rattle.script.specs.Faults.{Refuses};
 
 use crate::bad_line::BadLine;
 use crate::places::first_from;
-use std::ops::Range;
 
 // Words are parted by spaces, tabs and carriage returns.
 fn is_blank(byte: u8) -> bool
@@ -22,8 +21,15 @@ fn is_solid(byte: u8) -> bool
     !is_blank(byte)
 }
 
+/// The place of a word in a line: its first byte, and the byte behind its last.
+#[derive(Clone, Copy)]
+pub struct Place {
+    pub start: usize,
+    pub end: usize,
+}
+
 /// The place of the first word from `from` on, or none where only blanks are left.
-pub fn word_at(line: &[u8], from: usize) -> Option<Range<usize>>
+pub fn word_at(line: &[u8], from: usize) -> Option<Place>
     requires { from ≤ length line.now }
     ensures { MatchOption result (Blank line.now from (length line.now)) (λ w. WordAt line.now from w.start w.end) }
 {
@@ -32,7 +38,7 @@ pub fn word_at(line: &[u8], from: usize) -> Option<Range<usize>>
         return None;
     }
     let end = first_from(line, start, is_blank);
-    Some(start..end)
+    Some(Place { start, end })
 }
 
 /// The words of a line, taken one by one.
@@ -71,9 +77,12 @@ impl<'a> Iterator for Words<'a> {
     fn next(&mut self) -> Option<&'a [u8]> {
         let place = word_at(self.line, self.at)?;
         self.at = place.end;
-        Some(&self.line[place])
+        Some(&self.line[place.start..place.end])
     }
 }
+
+// The number that stands for every number too large for 16 bits.
+const TOO_LARGE: u32 = 65_536;
 
 /// The number that a word denotes in decimal digits, if it is not above `most`.
 // No `parse`: it reads a `str`, takes a plus sign, and of an overflow it does not say that all bytes are digits.
@@ -87,9 +96,7 @@ pub fn number(word: &[u8], most: u16) -> Result<u16, BadLine>
         if !digit.is_ascii_digit() {
             return Err(BadLine::NotNumber);
         }
-        n = n
-            .saturating_mul(10)
-            .saturating_add(u32::from(*digit - b'0'));
+        n = (n * 10 + u32::from(*digit - b'0')).min(TOO_LARGE);
     }
     match u16::try_from(n) {
         Ok(n) if n <= most => Ok(n),
