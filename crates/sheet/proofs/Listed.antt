@@ -1,6 +1,7 @@
 -- Tests on lists, and sums over the states of rules. Assumes nothing.
-use Rattle.std.proofs.Common.{◌≡◌, ◌+◌, ◌≤◌, Bool, true, not, List, [], ◌∷◌, ◌++◌, sum_by, refl, arith}
-use Rattle.std.specs.List.{filter, list_any}
+use Rattle.std.proofs.Common.{◌≡◌, ◌+◌, ◌≤◌, Bool, true, false, not, List, [], ◌∷◌, ◌++◌, length, sum_by, refl, ◌∙◌, arith}
+use Rattle.std.specs.List.{filter, list_any, items_where_true}
+use Rattle.std.specs.List.Retain.{ReturnsInTurn, IsFiltered}
 use Rattle.std.proofs.lemmas.List.Sums.{sum_by-cons, sum_by_push}
 use Rattle.std.proofs.lemmas.List.Filters.{sum_by-filter_both}
 use Rattle.model.specs.Automaton.{Automaton}
@@ -39,3 +40,20 @@ every_kept f p (x ∷ xs) e = grind (arith, every_kept f p xs, e)
 pub every_push : {X : Type 0} (f : X → Bool) (xs : List X) (a : X) → every f xs ≡ true → f a ≡ true → every f (xs ++ (a ∷ [])) ≡ true
 every_push f [] a e t = grind (arith, t)
 every_push f (x ∷ xs) a e t = grind (arith, every_push f xs a, e, t)
+
+-- what is kept of a list by a test that changes, where its answers rest on what no call changes
+module _ {X F : Type 0} (R : F → X → Bool → F → Type 0) (test : X → Bool) (I : F → Type 0) (says : (f : F) (x : X) (b : Bool) (g : F) → I f → R f x b g → (b ≡ test x) × I g) where
+  kept_head : (x : X) (xs : List X) (bs : List Bool) (b : Bool) → b ≡ test x → items_where_true bs xs ≡ filter test xs → items_where_true (b ∷ bs) (x ∷ xs) ≡ filter test (x ∷ xs)
+  kept_head x xs bs true e h = grind (arith, e, h)
+  kept_head x xs bs false e h = grind (arith, e, h)
+
+  kept_in_turn : (f : F) (bs : List Bool) (xs : List X) (g : F) → I f → length bs ≡ length xs → ReturnsInTurn R f bs xs g → items_where_true bs xs ≡ filter test xs
+  kept_in_turn f [] [] g i e t = refl
+  kept_in_turn f [] (x ∷ xs) g i e t = absurd (omega arith)
+  kept_in_turn f (b ∷ bs) [] g i e t = absurd t
+  kept_in_turn f (b ∷ bs) (x ∷ xs) g i e t =
+      let one = says f x b t.0 i t.1 in
+      kept_head x xs bs b one.0 (kept_in_turn t.0 bs xs g one.1 (omega arith) t.2)
+
+  pub kept_is : (f : F) (xs ys : List X) → I f → IsFiltered R f xs ys → ys ≡ filter test xs
+  kept_is f xs ys i k = k.4 ∙ kept_in_turn f k.0 xs k.1 i k.2 k.3

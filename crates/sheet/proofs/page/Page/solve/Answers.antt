@@ -1,6 +1,6 @@
-use Rattle.std.proofs.Common.{Ok, Err, Result, ◌≡◌, ℕ, ◌-◌, List, map, length, get_or, take, vec_items, sym, refl, ap, ◌∙◌, subst, arith}
+use Rattle.std.proofs.Common.{Ok, Err, Result, ◌≡◌, ℕ, ◌-◌, List, map, length, get_or, take, vec_items, sym, refl, ap, ◌∙◌, subst, arith, rules as the_rules}
 use mathlib.Core.Option.{none, some}
-use Rattle.model.specs.Automaton.{no_row}
+use Rattle.model.specs.Automaton.{Automaton, no_row}
 use Rattle.model.specs.Rules.{together}
 use Rattle.model.specs.Positions.{Found, Solution, found, none_found, too_crowded}
 use Rattle.model.specs.Positions as Positions
@@ -10,6 +10,7 @@ use Rattle.synthesis.specs.declared.state.State.{State}
 use Rattle.synthesis.specs.Tables.{automaton}
 use Rattle.model.specs.declared.refusal.Refusal.{Refusal}
 use Rattle.std.specs.Result.{IsErr, IsErrAnd}
+use Rattle.synthesis.specs.declared.solved.Found.{Found as Size}
 use Rattle.synthesis.specs.declared.solved.Unsolved.{Unsolved}
 use Rattle.synthesis.specs.declared.solved.Unsolved.TheVariants.{NoneFound, Crowded}
 use Rattle.synthesis.specs.Refused.{refused_by}
@@ -21,6 +22,10 @@ use Rattle.sheet.specs.Added.{meaning}
 use Rattle.sheet.proofs.Paging.{outcome, rules_agree}
 use Rattle.sheet.proofs.Keeping.{stores_alike, solved_as}
 use Rattle.sheet.proofs.page.Page.solve.Goals as goal
+
+-- what is answered, is answered by an equal result
+answered_as : (A : Automaton) (capacity limit : ℕ) (r x : Result Size Unsolved) (states : List State) → Answered A capacity limit r states → r ≡ x → Answered A capacity limit x states
+answered_as A capacity limit r x states a e = subst (λ (y : Result Size Unsolved). Answered A capacity limit y states) e a
 
 -- a solve that finds nothing leaves no controller, and is refused for that reason
 unsolved_as : (p : Page) (s : Sheet) (shows : Shows p s) (e : Unsolved) (states : List State) → Answered (together (automaton p.table.arrows) (map meaning (vec_items p.added))) p.capacity p.limit (Err e) states
@@ -39,7 +44,7 @@ returns c s shows =
     let v = c.as_slice.ensures.value in
     let size = c.in_ok-found.found in
     let states = vec_items c.solve.new.workspace.states in
-    let (f, e, st) = c.in_ok-found.ensures in
+    let (f, e, st) = answered_as (together H (map meaning c.as_slice.result.now)) p.capacity p.limit c.solve.result (Ok size) states c.solve.ensures (search the_rules) in
     let e' = subst (λ (w : List ReadRule). Positions.solve (together H (map meaning w)) p.capacity p.limit ≡ found f) v e in
     let st' = stores_alike _ (rules s) f size states (rules_agree p s shows) (subst (λ (w : List ReadRule). Stores (together H (map meaning w)) f size states) v st) in
     let S = (rules s).situations in
@@ -65,6 +70,10 @@ returns c s shows =
 pub returns-in_err-found : goal.returns-in_err-found
 returns-in_err-found c s shows =
     let p = c.args.self.now in
-    let a = subst (λ (w : List ReadRule). Answered (together (automaton p.table.arrows) (map meaning w)) p.capacity p.limit (Err c.in_err-found.field-0.0) (vec_items c.solve.new.workspace.states)) c.as_slice.ensures.value c.in_err-found.ensures in
-    outcome _ _ _ _ (unsolved_as p s shows c.in_err-found.field-0.0 (vec_items c.solve.new.workspace.states) a ∙ sym (refusal_is s c.in_err-found.field-0.0 c.from_residual.result c.from_residual.ensures))
+    let H = automaton p.table.arrows in
+    let states = vec_items c.solve.new.workspace.states in
+    let e = c.in_err-found.field-0.0 in
+    let told = answered_as (together H (map meaning c.as_slice.result.now)) p.capacity p.limit c.solve.result (Err e) states c.solve.ensures (search the_rules) in
+    let a = subst (λ (w : List ReadRule). Answered (together H (map meaning w)) p.capacity p.limit (Err e) states) c.as_slice.ensures.value told in
+    outcome _ _ _ _ (unsolved_as p s shows e states a ∙ sym (refusal_is s e c.from_residual.result c.from_residual.ensures))
     (record { house = shows.house; situations = shows.situations; commands = shows.commands; capacity = shows.capacity; added = shows.added; limit = shows.limit; stored = refl })
