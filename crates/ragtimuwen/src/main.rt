@@ -69,6 +69,9 @@ struct Answers<'a, W> {
     rt: &'a HostRuntime,
     heap: Global,
     out: &'a mut W,
+    /// What solve works in, once a line has asked for it: what it holds does not matter to the next line, and its making takes longer than
+    /// many a solve.
+    workspace: Option<Workspace>,
 }
 
 impl<'a, W: Write> Answers<'a, W> {
@@ -77,6 +80,7 @@ impl<'a, W: Write> Answers<'a, W> {
             rt,
             heap: rt.alloc(),
             out,
+            workspace: None,
         }
     }
 
@@ -176,9 +180,9 @@ impl<'a, W: Write> Answers<'a, W> {
             Ok(numbers) => numbers,
             Err(refusal) => return self.refuse(refusal),
         };
-        let mut workspace = Workspace::new(self.heap)?;
+        let mut workspace = self.take_workspace()?;
         let added: [Free; 0] = [];
-        match solve(
+        let written = match solve(
             &setup.house,
             &added,
             setup.capacity as usize,
@@ -187,6 +191,16 @@ impl<'a, W: Write> Answers<'a, W> {
         ) {
             Ok(found) => self.controller(found, &workspace.states, numbers),
             Err(unsolved) => self.refuse(Refusal::from(unsolved)),
+        };
+        self.workspace = Some(workspace);
+        written
+    }
+
+    // The workspace of the lines before, or a new one.
+    fn take_workspace(&mut self) -> Result<Workspace, AllocError> {
+        match self.workspace.take() {
+            Some(workspace) => Ok(workspace),
+            None => Workspace::new(self.heap),
         }
     }
 

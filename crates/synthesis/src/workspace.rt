@@ -44,6 +44,13 @@ pub struct Workspace {
     ghost states_full: { vec_len states ≡ 1024 },
 }
 
+/// A row for each position, with no link in it. Made row by row: the copies that `vec!` makes of an array look at each of its elements.
+fn no_links<const N: usize>(heap: Global) -> Result<Vec<[Option<u16>; N]>, AllocError>
+    ensures { IfOk result (λ rows. vec_len rows ≡ 1024) }
+{
+    (0..1024u16).map(|_| [None; N]).collect(heap)
+}
+
 impl Workspace {
     /// All tables at once, or none if there is no memory for one of them.
     pub fn new(heap: Global) -> Result<Workspace, AllocError>
@@ -51,11 +58,11 @@ impl Workspace {
     {
         let met = vec![in heap; NO_POSITION; 1024]?;
         let waiting = vec![in heap; NO_POSITION; 1024]?;
-        let links = vec![in heap; [None; 64]; 1024]?;
+        let links = no_links(heap)?;
         let safe = vec![in heap; false; 1024]?;
         let places = vec![in heap; 0u16; 1024]?;
         let waiting_places = vec![in heap; 0u16; 1024]?;
-        let nexts = vec![in heap; [None; 8]; 1024]?;
+        let nexts = no_links(heap)?;
         let states = vec![in heap; NO_STATE; 1024]?;
         Ok(Workspace {
             met,
