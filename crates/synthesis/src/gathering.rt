@@ -61,7 +61,7 @@ struct Beside<'a, R: Rule> {
 }
 
 impl<R: Rule> Beside<'_, R> {
-    // Not by `rules::Pair`: this is asked of any numbers, since `from_fn` goes to the end of each array.
+    // Not by `rules::Pair`: a rule has a state, and the table of no rule has none.
     /// Whether the follower follows the state, with the rule beside those of the table. False, where one of the numbers is too large.
     fn follows(&self, state: u8, command: u8, situation: u8, follower: u8) -> bool
         ensures { command < self.now.arrows.now.numbers.commands → situation < self.now.arrows.now.numbers.situations → state < self.now.arrows.now.states + (R.Rule.meaning self.now.rule.now).states → follower < self.now.arrows.now.states + (R.Rule.meaning self.now.rule.now).states → result ≡ (rule_beside (automaton self.now.arrows.now) (R.Rule.meaning self.now.rule.now)).follows state command situation follower }
@@ -85,13 +85,16 @@ impl<R: Rule> Beside<'_, R> {
         }
     }
 
+    // By number, here and below, and only as far as the numbers go: `from_fn` asks for every place of the arrays and hands them on by value.
+
     /// What the follower follows, with the rule beside those of the table.
     fn sources(&self, command: u8, situation: u8, follower: u8) -> Sources
         ensures { command < self.now.arrows.now.numbers.commands → situation < self.now.arrows.now.numbers.situations → follower < self.now.arrows.now.states + (R.Rule.meaning self.now.rule.now).states → Into (rule_beside (automaton self.now.arrows.now) (R.Rule.meaning self.now.rule.now)) command situation follower result }
     {
-        let states = array::from_fn(|state| {
-            self.follows(state as u8, command, situation, follower)
-        });
+        let mut states = [false; 16];
+        for state in 0..self.arrows.states + self.rule.states() {
+            states[state as usize] = self.follows(state, command, situation, follower);
+        }
         Sources { states }
     }
 
@@ -99,7 +102,10 @@ impl<R: Rule> Beside<'_, R> {
     fn moves(&self, command: u8, situation: u8) -> Moves
         ensures { command < self.now.arrows.now.numbers.commands → situation < self.now.arrows.now.numbers.situations → Moving (rule_beside (automaton self.now.arrows.now) (R.Rule.meaning self.now.rule.now)) command situation result }
     {
-        let into = array::from_fn(|follower| self.sources(command, situation, follower as u8));
+        let mut into = [NO_SOURCES; 16];
+        for follower in 0..self.arrows.states + self.rule.states() {
+            into[follower as usize] = self.sources(command, situation, follower);
+        }
         Moves { into }
     }
 
@@ -107,7 +113,10 @@ impl<R: Rule> Beside<'_, R> {
     fn replies(&self, command: u8) -> Replies
         ensures { command < self.now.arrows.now.numbers.commands → Replying (rule_beside (automaton self.now.arrows.now) (R.Rule.meaning self.now.rule.now)) command result }
     {
-        let moves = array::from_fn(|situation| self.moves(command, situation as u8));
+        let mut moves = [NO_MOVES; 8];
+        for situation in 0..self.arrows.numbers.situations {
+            moves[situation as usize] = self.moves(command, situation);
+        }
         Replies { moves }
     }
 
@@ -115,7 +124,11 @@ impl<R: Rule> Beside<'_, R> {
     fn all_replies(&self) -> [Replies; 8]
         ensures { (u : ℕ) → u < self.now.arrows.now.numbers.commands → Replying (rule_beside (automaton self.now.arrows.now) (R.Rule.meaning self.now.rule.now)) u (slice_index_or result u no_replies) }
     {
-        array::from_fn(|command| self.replies(command as u8))
+        let mut all = [NO_REPLIES; 8];
+        for command in 0..self.arrows.numbers.commands {
+            all[command as usize] = self.replies(command);
+        }
+        all
     }
 
     /// Whether a state starts and is rejecting, with the rule beside those of the table. Neither, behind the last state.
