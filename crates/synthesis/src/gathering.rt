@@ -85,7 +85,8 @@ impl<R: Rule> Beside<'_, R> {
         }
     }
 
-    // By number, here and below, and only as far as the numbers go: `from_fn` asks for every place of the arrays and hands them on by value.
+    // This one, the next two and the loop of `Arrows::beside` go by number, and as far as the numbers go: `from_fn` asks for every place, and hands
+    // arrays of up to 16 KiB on by value.
 
     /// What the follower follows, with the rule beside those of the table.
     fn sources(&self, command: u8, situation: u8, follower: u8) -> Sources
@@ -120,17 +121,6 @@ impl<R: Rule> Beside<'_, R> {
         Replies { moves }
     }
 
-    /// The moves under every command.
-    fn all_replies(&self) -> [Replies; 8]
-        ensures { (u : ℕ) → u < self.now.arrows.now.numbers.commands → Replying (rule_beside (automaton self.now.arrows.now) (R.Rule.meaning self.now.rule.now)) u (slice_index_or result u no_replies) }
-    {
-        let mut all = [NO_REPLIES; 8];
-        for command in 0..self.arrows.numbers.commands {
-            all[command as usize] = self.replies(command);
-        }
-        all
-    }
-
     /// Whether a state starts and is rejecting, with the rule beside those of the table. Neither, behind the last state.
     fn flags(&self, state: u8) -> Flags
         ensures { state < self.now.arrows.now.states + (R.Rule.meaning self.now.rule.now).states → result ≡ flags_of (rule_beside (automaton self.now.arrows.now) (R.Rule.meaning self.now.rule.now)) state }
@@ -154,21 +144,6 @@ impl<R: Rule> Beside<'_, R> {
     {
         array::from_fn(|state| self.flags(state as u8))
     }
-
-    /// The rules of both, as one table.
-    fn table(&self) -> Arrows
-        ensures agrees { Agrees (automaton result) (rule_beside (automaton self.now.arrows.now) (R.Rule.meaning self.now.rule.now)) }
-        ensures some { 0 < result.states }
-    {
-        let flags = self.all_flags();
-        let replies = self.all_replies();
-        Arrows {
-            numbers: self.arrows.numbers,
-            states: self.arrows.states + self.rule.states(),
-            flags,
-            replies,
-        }
-    }
 }
 
 impl Arrows {
@@ -178,7 +153,18 @@ impl Arrows {
         ensures agrees { Agrees (automaton result) (rule_beside (automaton self.now) (R.Rule.meaning rule.now)) }
         ensures some { 0 < result.states }
     {
-        Beside { arrows: self, rule }.table()
+        let beside = Beside { arrows: self, rule };
+        let flags = beside.all_flags();
+        let mut replies = [NO_REPLIES; 8];
+        for command in 0..self.numbers.commands {
+            replies[command as usize] = beside.replies(command);
+        }
+        Arrows {
+            numbers: self.numbers,
+            states: self.states + rule.states(),
+            flags,
+            replies,
+        }
     }
 }
 

@@ -1,12 +1,12 @@
 use Rattle.std.proofs.Common.{Bool, ap, arith}
 use Rattle.synthesis.specs.declared.arrows.Flags.{Flags}
 use Rattle.synthesis.specs.Tables.{flags_of}
-use Rattle.synthesis.proofs.gathering.Beside.table.Goals as goal
+use Rattle.synthesis.proofs.arrows.Arrows.beside.Goals as goal
 
 pub returns-clause-agrees : goal.returns-clause-agrees
 unfolding flags_of
 returns-clause-agrees g c =
-    let j = c.args.self.now.joins in
+    let j = c.requires.joins in
     let s = j.situations in
     let k = j.commands in
     record {
@@ -15,5 +15,5 @@ returns-clause-agrees g c =
       states = omega (arith, c.states.ensures.value);
       start = λ q l. ap {B = Bool} (λ (f : Flags). f.starts) (c.all_flags-flags.ensures q l);
       reject = λ q l. ap {B = Bool} (λ (f : Flags). f.rejects) (c.all_flags-flags.ensures q l);
-      follows = λ q u x p hq hu hx hp. c.all_replies-replies.ensures u (omega arith) x hx p hp q hq;
+      follows = λ q u x p hq hu hx hp. c.loop-command.invariant.1 u (omega arith) (omega arith) x hx p hp q hq;
     }
