@@ -7,7 +7,7 @@ use Rattle.std.proofs.lemmas.Bool.{cases_lt, cases_eq}
 use Rattle.std.proofs.lemmas.List.Sums.{fold_push}
 use Rattle.std.proofs.lemmas.List.FromFn.{map-range_with_len_more}
 use Rattle.model.specs.Search.{place}
-use Rattle.search.specs.Meeting.{with_met, link_to, Link, LinkedFrom}
+use Rattle.search.specs.Meeting.{with_met, link_to, Link, LinkedFrom, Linked}
 use Rattle.search.proofs.Places.{place_le, place_behind, place_front, place_one}
 use Rattle.search.proofs.OneByOne.{met_extends, met_new, met_old}
 
@@ -43,6 +43,11 @@ module _ {X : Type 0} (same : X → X → Bool) where
   link_stays m n (Some y) link h =
       (h.0 ∙ ap (λ k. Some k) (sym (place_front same m n y h.1)), omega (arith, length-append m n, place_front same m n y h.1, h.1))
 
+  -- and so do the links of a node
+  pub linked_stays : (successor : X → ℕ → Option X) (m new : List X) (links : List (Option ℕ)) (x : X) (n : ℕ)
+      → LinkedFrom same successor m links x n → LinkedFrom same successor (m ++ new) links x n
+  linked_stays successor m new links x n h i l = link_stays m new (successor x i) (get_or links i None) (h i l)
+
   -- and a meeting makes one
   link_met : ((x : X) → same x x ≡ true) → (m : List X) (o : Option X) → Link same (with_met same m o) o (link_to same m o)
   link_met itself m None = refl
@@ -55,13 +60,13 @@ module _ {X : Type 0} (same : X → X → Bool) where
   ]
 
   -- one row more, of the node that stands at its place; the rows before it hold what they held
-  pub linked_more : (degree : ℕ) (successor : X → ℕ → Option X) (m new n : List X) (links links' : ℕ → List (Option ℕ)) (x : X) (row : ℕ) (reached : List (Option ℕ))
+  pub linked_by_more : (degree : ℕ) (successor : X → ℕ → Option X) (m new n : List X) (links links' : ℕ → List (Option ℕ)) (x : X) (row : ℕ) (reached : List (Option ℕ))
       → n ≡ m ++ new → LinkedBy same degree successor m links row → row < length m → ((d : X) → get_or m row d ≡ x)
       → LinkedFrom same successor n reached x degree
       → ((k i : ℕ) → k < row → i < degree → get_or (links' k) i None ≡ get_or (links k) i None)
       → ((i : ℕ) → i < degree → get_or (links' row) i None ≡ get_or reached i None)
       → LinkedBy same degree successor n links' (row + 1)
-  linked_more degree successor m new n links links' x row reached en h lm here l kept now k d lk i li = elim (cases_eq k row) [
+  linked_by_more degree successor m new n links links' x row reached en h lm here l kept now k d lk i li = elim (cases_eq k row) [
     | inl e ↦
         subst (λ v. Link same n (successor (get_or n v d) i) (get_or (links' v) i None)) (sym e)
         (subst (λ v. Link same n (successor (get_or n row d) i) v) (sym (now i li))
@@ -75,6 +80,15 @@ module _ {X : Type 0} (same : X → X → Bool) where
     where
       at : (j : ℕ) → j < length m → get_or n j d ≡ get_or m j d
       at j lt = ap (λ v. get_or v j d) en ∙ get_or_append_left m new d j lt
+
+  -- the same, of rows that a list holds
+  pub linked_more : (degree : ℕ) (successor : X → ℕ → Option X) (m new n : List X) (links : List (List (Option ℕ))) (x : X) (row : ℕ) (reached : List (Option ℕ))
+      → n ≡ m ++ new → Linked same degree successor m links row → row < length m → row < length links → ((d : X) → get_or m row d ≡ x)
+      → LinkedFrom same successor n reached x degree → Linked same degree successor n (set links row reached) (row + 1)
+  linked_more degree successor m new n links x row reached en h lm ll here l =
+      linked_by_more degree successor m new n (λ k. get_or links k []) (λ k. get_or (set links row reached) k []) x row reached en h lm here l
+      (λ k i lk li. ap (λ v. get_or v i None) (get_or-set_other links row k reached [] (omega (arith, lk))))
+      (λ i li. ap (λ v. get_or v i None) (get_or-set_same links row reached [] ll))
 
   module _ (successor : X → ℕ → Option X) (before : List X) (x : X) where
     -- in the turn of x: so many of its successors are met, from the nodes met before

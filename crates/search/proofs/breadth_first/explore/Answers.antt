@@ -5,7 +5,7 @@ use Rattle.std.proofs.lemmas.Bool.{lt-ltb}
 use Rattle.model.specs.Search.{fresh}
 use Rattle.search.specs.Meeting.{successors}
 use Rattle.search.specs.Waiting.{waiting}
-use Rattle.search.proofs.Links.{in_rows, row_in_rows, get_or_before, get_or_inside, linked_more}
+use Rattle.search.proofs.Links.{in_rows, row_in_rows, get_or_before, get_or_inside, linked_by_more}
 use Rattle.search.proofs.OneByOne.{met_behind}
 use Rattle.search.proofs.Ring.{length_waiting, none_waiting}
 use Rattle.search.proofs.Turns.{Turn, longer, turning_first, turn, turning_last}
@@ -121,7 +121,7 @@ loop-node-preserved g c =
     let after = put_mid from (from + c.degree-degree.result - from) c.loop-node.links c.spread.new.links in
     let there = row_there g (goal.at.loop-node-preserved g c).In-Some in
     let linked =
-    linked_more same degree successor before (fresh same before (successors degree successor node)) (take to met) (λ k. drop (k * degree) c.loop-node.links) (λ k. drop (k * degree) after) node c.loop-node.row c.spread.new.links
+    linked_by_more same degree successor before (fresh same before (successors degree successor node)) (take to met) (λ k. drop (k * degree) c.loop-node.links) (λ k. drop (k * degree) after) node c.loop-node.row c.spread.new.links
     (spread.nodes.1 ∙ met_behind same degree successor before node) c.loop-node.invariant.2.linked turn_is.early turn_is.here spread.links
     (λ k i lk li.
     get_or-drop (k * degree) after i None

@@ -4,7 +4,7 @@ use Rattle.std.proofs.lemmas.Bool.{lt-ltb}
 use Rattle.model.specs.Search.{fresh}
 use Rattle.search.specs.Meeting.{successors}
 use Rattle.search.specs.Waiting.{waiting}
-use Rattle.search.proofs.Links.{linked_more}
+use Rattle.search.proofs.Links.{linked_by_more}
 use Rattle.search.proofs.OneByOne.{met_behind}
 use Rattle.search.proofs.Ring.{length_waiting, none_waiting}
 use Rattle.search.proofs.Turns.{Turn, longer, turning_first, turn, turning_last}
@@ -112,7 +112,7 @@ loop-node-preserved g c =
     let before = take len c.loop-node.met in
     let turn_is = turn_now g (goal.at.loop-node-preserved g c).In-Some in
     let linked =
-    linked_more same (g.G.Graph.degree c.args.graph.now) successor before (fresh same before (successors (g.G.Graph.degree c.args.graph.now) successor node)) (take to met) (λ k. get_or c.loop-node.links k []) (λ k. get_or (set c.loop-node.links c.loop-node.row c.spread.new.links) k []) node c.loop-node.row c.spread.new.links
+    linked_by_more same (g.G.Graph.degree c.args.graph.now) successor before (fresh same before (successors (g.G.Graph.degree c.args.graph.now) successor node)) (take to met) (λ k. get_or c.loop-node.links k []) (λ k. get_or (set c.loop-node.links c.loop-node.row c.spread.new.links) k []) node c.loop-node.row c.spread.new.links
     (spread.nodes.1 ∙ met_behind same (g.G.Graph.degree c.args.graph.now) successor before node) c.loop-node.invariant.2.linked turn_is.early turn_is.here spread.links
     (λ k i lk li. ap (λ v. get_or v i None) (get_or-set_other c.loop-node.links c.loop-node.row k c.spread.new.links [] (omega (arith, lk))))
     (λ i li. ap (λ v. get_or v i None) (get_or-set_same c.loop-node.links c.loop-node.row c.spread.new.links [] (row_there g (goal.at.loop-node-preserved g c).In-Some))) in (
